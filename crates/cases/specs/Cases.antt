@@ -1,0 +1,55 @@
+-- The worked cases of document 01 over the definitions of `standard`, as one table and one theorem.
+--   limits s lvl             i and e: C1 to C5
+--   line len depth s lvl xs  a line's samples once it is filtered: C6 to C11
+use mathlib.Core.Path.{_≡_, refl}
+use mathlib.Core.List.{List, [], _∷_}
+use Prim.Native.Nat.{ℕ, zero, suc, _-_, _/_}
+use lib.ListN.{length, getD}
+use Rattle.standard.specs.Math.{Clip3, Round2}
+use Rattle.standard.specs.Strength.{limit, blimit, thresh, bounds}
+use Rattle.standard.specs.Masks.{hevMask, filterMask, flatMask, flatMask2}
+use Rattle.standard.specs.Narrow.{filter4_clamp, baseFilter, filter12, moved, narrowed, narrow}
+use Rattle.standard.specs.Wide.{wideAt, wide}
+use Rattle.standard.specs.Line.{changed, filtered}
+
+abbrev pub limits : ℕ → ℕ → List ℕ
+limits s lvl = limit s lvl ∷ blimit s lvl ∷ []
+
+-- f at k, k + 1, .., n of them
+abbrev from : (ℕ → ℕ) → ℕ → ℕ → List ℕ
+from f k zero = []
+from f k (suc n) = f k ∷ from f (suc k) n
+
+-- the samples xs stand evenly about the edge, so the first has place 8 - length xs / 2
+abbrev pub line : ℕ → ℕ → ℕ → ℕ → List ℕ → List ℕ
+line len depth s lvl xs =
+    let first = 8 - length xs / 2 in
+    from (filtered len (bounds depth s lvl) (λ k. getD xs (k - first) 0)) first (length xs)
+
+pub cases :
+    (limits 0 0
+    ∷ limits 0 63
+    ∷ limits 4 63
+    ∷ limits 5 63
+    ∷ limits 7 3
+    ∷ line 4 8 0 32 (100 ∷ 100 ∷ 110 ∷ 110 ∷ [])
+    ∷ line 4 8 0 32 (90 ∷ 100 ∷ 110 ∷ 110 ∷ [])
+    ∷ line 4 8 0 32 (100 ∷ 100 ∷ 141 ∷ 141 ∷ [])
+    ∷ line 4 8 0 32 (100 ∷ 100 ∷ 140 ∷ 140 ∷ [])
+    ∷ line 8 10 0 32 (100 ∷ 100 ∷ 100 ∷ 100 ∷ 104 ∷ 104 ∷ 104 ∷ 104 ∷ [])
+    ∷ line 16 12 0 32 (0 ∷ 0 ∷ 0 ∷ 0 ∷ 0 ∷ 0 ∷ 0 ∷ 16 ∷ 16 ∷ 16 ∷ 16 ∷ 16 ∷ 16 ∷ 16 ∷ [])
+    ∷ [])
+    ≡ ((1 ∷ 5 ∷ [])
+    ∷ (63 ∷ 193 ∷ [])
+    ∷ (5 ∷ 135 ∷ [])
+    ∷ (4 ∷ 134 ∷ [])
+    ∷ (1 ∷ 11 ∷ [])
+    ∷ (102 ∷ 104 ∷ 106 ∷ 108 ∷ [])
+    ∷ (90 ∷ 101 ∷ 109 ∷ 110 ∷ [])
+    ∷ (100 ∷ 100 ∷ 141 ∷ 141 ∷ [])
+    ∷ (108 ∷ 115 ∷ 125 ∷ 132 ∷ [])
+    ∷ (100 ∷ 101 ∷ 101 ∷ 102 ∷ 103 ∷ 103 ∷ 104 ∷ 104 ∷ [])
+    ∷ (0 ∷ 1 ∷ 2 ∷ 3 ∷ 4 ∷ 5 ∷ 7 ∷ 9 ∷ 11 ∷ 12 ∷ 13 ∷ 14 ∷ 15 ∷ 16 ∷ [])
+    ∷ [])
+unfolding Clip3 Round2 limit blimit thresh bounds hevMask filterMask flatMask flatMask2 filter4_clamp baseFilter filter12 moved narrowed narrow wideAt wide changed filtered
+cases = refl

@@ -1,0 +1,1 @@
+// No code: mathematics of loops is in specs/ and proofs/.
