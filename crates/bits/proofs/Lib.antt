@@ -1,0 +1,5 @@
+pub mod Bits
+pub mod Marks
+pub mod Runs
+pub mod Words
+pub mod Walks

@@ -1,0 +1,4 @@
+pub mod Bit
+pub mod Mark
+pub mod Word
+pub mod Walk

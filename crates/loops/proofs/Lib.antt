@@ -1,0 +1,9 @@
+pub mod Runs
+pub mod Tables
+pub mod Anys
+pub mod Lists
+pub mod Reflected
+pub mod Numbers
+pub mod Locals
+pub mod Closed
+pub mod Loops
