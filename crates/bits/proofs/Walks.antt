@@ -11,7 +11,6 @@ use native.Mathlib.Decide.{decLt}
 use lib.Dec.{lit<}
 use lib.Bits.{bitAnd, and-high, and-zero-r}
 use lib.Pow.{pow-pos, pow-lt, pow-mono, shr-mod}
-use Rattle.loops.specs.Run.{upTo}
 use Rattle.loops.proofs.Runs.{upTo-idle}
 use Rattle.bits.specs.Bit.{hasBit}
 use Rattle.bits.specs.Walk.{visits, ahead}

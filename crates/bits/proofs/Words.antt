@@ -7,7 +7,7 @@ use native.Mathlib.Nat.{le-refl, div-eq-of-lt, mod-eq-of-lt}
 use native.Mathlib.Numerals.{add-one}
 use native.Mathlib.Decide.{decLt}
 use lib.Dec.{eqb, ltb}
-use lib.Bits.{bitAnd, bitOr, or-lt, or-add-and, and-le-l, and-le-r, or-shr, or-mod}
+use lib.Bits.{bitOr, or-lt, or-add-and, and-le-l, and-le-r, or-shr, or-mod}
 use lib.Pow.{pow-pos}
 use borrow.Author.Tests.{eq-eqb, ne-eqb, lt-ltb, le-ltb}
 use Rattle.loops.specs.Any.{anyBelow}

@@ -1,10 +1,10 @@
 -- A loop of runs is the run of the lists one after another; such a list has no piece twice if a key tells its parts apart.
-use Prim.Native.Nat.{ℕ, zero, suc, _<_, _≤_}
+use Prim.Native.Nat.{ℕ, zero, suc, _<_}
 use native.Mathlib.Omega.{arith}
 use native.Mathlib.Decide.{ℕ-discrete}
 use mathlib.Core.Path.{_≡_, refl, sym, ap, _∙_, subst}
 use mathlib.Core.Logic.{_≢_, by-cases}
-use mathlib.Core.List.{List, [], _∷_, _++_, List·Memᴰ, List·Memᴰ·head, Memᴰ·append-left, Memᴰ·append-right}
+use mathlib.Core.List.{List, [], _∷_, _++_, List·Memᴰ, Memᴰ·append-left, Memᴰ·append-right}
 use Rattle.loops.specs.Run.{run, All, Distinct, upTo}
 use Rattle.loops.proofs.Runs.{run-append}
 use Rattle.loops.proofs.Closed.{all-at, all-of}
@@ -13,7 +13,7 @@ all-append : {A : Type 0} (Q : A → Type 0) (l m : List A) → All Q l → All 
 all-append Q [] m h g = g
 all-append Q (x ∷ l) m h g = (h .0, all-append Q l m (h .1) g)
 
-pub all-imp : {A : Type 0} (Q R : A → Type 0) → ((x : A) → Q x → R x) → (l : List A) → All Q l → All R l
+all-imp : {A : Type 0} (Q R : A → Type 0) → ((x : A) → Q x → R x) → (l : List A) → All Q l → All R l
 all-imp Q R g l h = all-of R l (λ x m. g x (all-at Q l h m))
 
 distinct-append : {A : Type 0} (Q R : A → Type 0) → ((x y : A) → Q x → R y → x ≢ y) → (l m : List A)

@@ -1,4 +1,5 @@
--- Loops and runs by recursion on their length: a loop's invariant, steps that may be left out, a part of the state, and superblock rows in turn, where later columns commute with earlier rows.
+-- Loops and runs, by recursion on their length: a loop's invariant, steps that may be left out, a part of the state, and two loops in turn,
+-- where the later steps of the first commute with the earlier ones of the second.
 use Prim.Native.Nat.{ℕ, zero, suc, _+_, _<_, _≤_}
 use native.Mathlib.Numerals.{add-one}
 use native.Mathlib.Decide.{ℕ-discrete}
@@ -25,7 +26,7 @@ upTo-idle f m (suc n) h g s =
     by-cases (ℕ-discrete m (suc n)) (λ e. ap (λ k. upTo f k s) (sym e))
     (λ e. h n (omega arith) (upTo f n s) ∙ upTo-idle f m n h (omega arith) s)
 
--- a part of the state that each step changes by itself, as one plane of three
+-- a part of the state that each step changes by itself
 pub upTo-part : {S Q : Type 0} (g : S → Q) (f : ℕ → S → S) (h : ℕ → Q → Q) → ((i : ℕ) (s : S) → g (f i s) ≡ h i (g s))
     → (n : ℕ) (s : S) → g (upTo f n s) ≡ upTo h n (g s)
 upTo-part g f h e zero s = refl
@@ -49,7 +50,7 @@ pub run-past : {A S : Type 0} (act : A → S → S) (f : S → S) (l : List A) �
 run-past act f [] h s = refl
 run-past act f (p ∷ l) h s = run-past act f l (h .1) (act p s) ∙ ap (run act l) (h .0 s)
 
--- ---- superblock rows in turn: C 0, R 0, C 1, R 1, ..
+-- ---- two loops in turn: C 0, R 0, C 1, R 1, ..
 
 module _ {S : Type 0} (C R : ℕ → S → S) (past : (j k : ℕ) → j < k → (s : S) → C k (R j s) ≡ R j (C k s)) where
   past-all : (n k : ℕ) → n ≤ k → (s : S) → C k (upTo R n s) ≡ upTo R n (C k s)
