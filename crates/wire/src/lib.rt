@@ -1,0 +1,78 @@
+// Numbers in records of bytes, low byte first.
+ghost use mathlib.Core.Path.{_≡_};
+ghost use Prim.Native.Nat.{_+_, _*_, _<_, _≤_};
+ghost use lib.ListN.{length};
+
+fn byte(b: &[u8], at: usize) -> u32
+    requires { ⌜ at < length (now b) ⌝ }
+    ensures { λ r. ⌜ r < 256 ⌝ }
+{
+    wide(b[at])
+}
+
+fn wide(b: u8) -> u32
+    ensures { λ r. ⌜ r < 256 ⌝ }
+{
+    b as u32
+}
+
+pub fn u16_at(b: &[u8], at: usize) -> u16
+    requires { ⌜ at + 2 ≤ length (now b) ⌝ }
+{
+    (byte(b, at + 1) * 256 + byte(b, at)) as u16
+}
+
+pub fn u32_at(b: &[u8], at: usize) -> u32
+    requires { ⌜ at + 4 ≤ length (now b) ⌝ }
+{
+    byte(b, at + 3) * 16777216
+        + byte(b, at + 2) * 65536
+        + byte(b, at + 1) * 256
+        + byte(b, at)
+}
+
+fn signed(b: u8) -> i8 {
+    if b < 128 {
+        return b as i8;
+    }
+    !((255 - b) as i8)
+}
+
+fn i8_at(b: &[u8], at: usize) -> i8
+    requires { ⌜ at < length (now b) ⌝ }
+{
+    signed(b[at])
+}
+
+pub fn i8s_at(b: &[u8], at: usize, out: &mut [i8])
+    requires { ⌜ at + length (now out) ≤ length (now b) ⌝ }
+{
+    for k in 0..out.len() {
+        out[k] = i8_at(b, at + k);
+    }
+}
+
+pub fn u8s_at(b: &[u8], at: usize, out: &mut [u8])
+    requires { ⌜ at + length (now out) ≤ length (now b) ⌝ }
+{
+    for k in 0..out.len() {
+        out[k] = b[at + k];
+    }
+}
+
+pub fn put_u16(out: &mut [u8], at: usize, v: u16)
+    requires { ⌜ at + 2 ≤ length (now out) ⌝ }
+{
+    out[at] = (v % 256) as u8;
+    out[at + 1] = (v / 256) as u8;
+}
+
+pub fn put_u64(out: &mut [u8], at: usize, v: u64)
+    requires { ⌜ at + 8 ≤ length (now out) ⌝ }
+{
+    let mut rest = v;
+    for k in 0..8 {
+        out[at + k] = (rest % 256) as u8;
+        rest = rest / 256;
+    }
+}

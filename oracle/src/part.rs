@@ -1,0 +1,76 @@
+use crate::rng::Rng;
+
+/// A case or an answer as FORMATS.md has it.
+pub type Record = Vec<u8>;
+
+/// A line of the tally: a case falls into one of the cells, or into none.
+pub struct Group {
+    pub name: &'static str,
+    pub cells: &'static [&'static str],
+    /// Whether a run fails if a cell holds less than 1 % of the cases.
+    pub is_filled: bool,
+}
+
+impl Group {
+    pub const fn filled(name: &'static str, cells: &'static [&'static str]) -> Self {
+        Self {
+            name,
+            cells,
+            is_filled: true,
+        }
+    }
+
+    pub const fn counted(name: &'static str, cells: &'static [&'static str]) -> Self {
+        Self {
+            name,
+            cells,
+            is_filled: false,
+        }
+    }
+}
+
+/// A part of the port: its cases, rav1d's answers to them, and how they read in words.
+pub trait Part: Sync {
+    fn name(&self) -> &'static str;
+
+    /// How many bytes a case and an answer have.
+    fn sizes(&self) -> (usize, usize);
+
+    /// Every case, if they are few.
+    fn all(&self) -> Option<Vec<Record>> {
+        None
+    }
+
+    /// The cases that the gate replays.
+    fn fixed(&self) -> Vec<Record>;
+
+    /// The case of this number in a run.
+    fn case(&self, number: u64, rng: &mut Rng) -> Record;
+
+    /// The answer of rav1d, or the refusal that document 01 asks for.
+    fn answer(&self, case: &[u8]) -> Record;
+
+    /// The whole case in words, with answers and whose they are.
+    fn describe(&self, case: &[u8], answers: &[(&str, &[u8])]) -> String;
+
+    fn groups(&self) -> &'static [Group];
+
+    /// The cell of each group that a case falls into.
+    fn cells(&self, case: &[u8], answer: &[u8]) -> Vec<Option<usize>>;
+
+    /// The first `count` cases of a seed, or all cases there are.
+    fn cases(&self, count: Count, seed: u64) -> Box<dyn Iterator<Item = Record> + '_> {
+        match count {
+            Count::All => Box::new(self.all().expect("a part with all cases").into_iter()),
+            Count::First(count) => {
+                Box::new((0..count).map(move |n| self.case(n, &mut Rng::new(seed, n))))
+            }
+        }
+    }
+}
+
+#[derive(Clone, Copy)]
+pub enum Count {
+    All,
+    First(u64),
+}

@@ -1,0 +1,53 @@
+use crate::part::{Group, Part};
+
+/// How many cases fell into each cell of each group.
+pub struct Tally {
+    groups: &'static [Group],
+    counts: Vec<Vec<u64>>,
+    cases: u64,
+}
+
+impl Tally {
+    pub fn new(part: &dyn Part) -> Self {
+        let groups = part.groups();
+        Self {
+            groups,
+            counts: groups.iter().map(|g| vec![0; g.cells.len()]).collect(),
+            cases: 0,
+        }
+    }
+
+    pub fn add(&mut self, cells: &[Option<usize>]) {
+        assert_eq!(cells.len(), self.groups.len());
+        self.cases += 1;
+        for (counts, cell) in self.counts.iter_mut().zip(cells) {
+            if let Some(cell) = *cell {
+                counts[cell] += 1;
+            }
+        }
+    }
+
+    pub fn cases(&self) -> u64 {
+        self.cases
+    }
+
+    pub fn print(&self) {
+        for (group, counts) in self.groups.iter().zip(&self.counts) {
+            let cells = group.cells.iter().zip(counts);
+            let cells: Vec<_> = cells.map(|(cell, n)| format!("{cell} {n}")).collect();
+            println!("{}: {}", group.name, cells.join(", "));
+        }
+    }
+
+    /// The cells that are to be filled and hold less than 1 % of the cases.
+    pub fn nearly_empty(&self) -> Vec<String> {
+        let groups = self.groups.iter().zip(&self.counts);
+        let groups = groups.filter(|(group, _)| group.is_filled);
+        let cells = groups.flat_map(|(group, counts)| {
+            let cells = group.cells.iter().zip(counts);
+            let few = cells.filter(|(_, n)| **n * 100 < self.cases);
+            few.map(|(cell, _)| format!("{}: {cell}", group.name))
+        });
+        cells.collect()
+    }
+}
