@@ -25,10 +25,7 @@ pub fn u16_at(b: &[u8], at: usize) -> u16
 pub fn u32_at(b: &[u8], at: usize) -> u32
     requires { ⌜ at + 4 ≤ length (now b) ⌝ }
 {
-    byte(b, at + 3) * 16777216
-        + byte(b, at + 2) * 65536
-        + byte(b, at + 1) * 256
-        + byte(b, at)
+    byte(b, at + 3) * 16777216 + byte(b, at + 2) * 65536 + byte(b, at + 1) * 256 + byte(b, at)
 }
 
 fn signed(b: u8) -> i8 {
