@@ -1,0 +1,8 @@
+pub mod Ints
+pub mod Narrow
+pub mod Flags
+pub mod Place
+pub mod Sums
+pub mod Outputs
+pub mod Laws
+pub mod Rules

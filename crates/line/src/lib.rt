@@ -1,0 +1,316 @@
+// One line of samples across an edge, by value: the tests and the filters of 7.14.6. The standard's signed values are kept as
+// unsigned ones with an offset: a filter value as its sum with 8 * half, an eighth of one as its sum with half.
+ghost use mathlib.Core.Path.{_≡_};
+ghost use mathlib.Core.Bool.{true, _&&_};
+ghost use mathlib.Core.List.{[], _∷_};
+ghost use Prim.Native.Nat.{_+_, _*_, _/_, _<_, _≤_};
+ghost use lib.IntN.{subℕ};
+ghost use lib.ListN.{getD};
+ghost use Rattle.standard.specs.Math.{dist, sumTo};
+ghost use Rattle.standard.specs.Masks.{near, hevMask, filterMask, flatMask, flatMask2};
+ghost use Rattle.standard.specs.Narrow.{filter4_clamp, baseFilter, filter12, moved, narrow};
+ghost use Rattle.standard.specs.Wide.{tap, wide};
+ghost use Rattle.line.specs.Place.{of, make};
+ghost use Rattle.line.specs.Choice.{choice};
+ghost use Rattle.line.specs.Laws.{LineLaws};
+use standard::Bounds;
+
+// A place that a width does not read may hold anything.
+pub struct Line {
+    pub p6: u16,
+    pub p5: u16,
+    pub p4: u16,
+    pub p3: u16,
+    pub p2: u16,
+    pub p1: u16,
+    pub p0: u16,
+    pub q0: u16,
+    pub q1: u16,
+    pub q2: u16,
+    pub q3: u16,
+    pub q4: u16,
+    pub q5: u16,
+    pub q6: u16,
+}
+
+fn distance(a: u16, b: u16) -> u32
+    ensures { λ r. ⌜ r ≡ dist a b ⌝ }
+{
+    let x = a as u32;
+    let y = b as u32;
+    if x <= y { y - x } else { x - y }
+}
+
+fn is_near(t: u32, a: u16, b: u16) -> bool
+    ensures { λ r. ⌜ r ≡ near t a b ⌝ }
+{
+    distance(a, b) <= t
+}
+
+fn both_near(t: u32, a: u16, b: u16, c: u16, d: u16) -> bool
+    ensures { λ r. ⌜ r ≡ (near t a b && near t c d) ⌝ }
+{
+    is_near(t, a, b) & is_near(t, c, d)
+}
+
+pub fn filter_mask4(t: Bounds, l: Line) -> bool
+    ensures { λ r. ⌜ r ≡ filterMask 4 t (of l) ⌝ }
+{
+    if !both_near(t.i, l.p1, l.p0, l.q1, l.q0) {
+        return false;
+    }
+    2 * distance(l.p0, l.q0) + distance(l.p1, l.q1) / 2 <= t.e
+}
+
+fn filter_mask(wd: u32, t: Bounds, l: Line) -> bool
+    requires { ⌜ filterMask 4 t (of l) ≡ true ⌝ }
+    ensures { λ r. ⌜ r ≡ filterMask wd t (of l) ⌝ }
+{
+    if wd < 6 {
+        return true;
+    }
+    if !both_near(t.i, l.p2, l.p1, l.q2, l.q1) {
+        return false;
+    }
+    if wd < 8 {
+        return true;
+    }
+    both_near(t.i, l.p3, l.p2, l.q3, l.q2)
+}
+
+fn flat_mask(wd: u32, t: Bounds, l: Line) -> bool
+    ensures { λ r. ⌜ r ≡ flatMask wd t (of l) ⌝ }
+{
+    if !both_near(t.f, l.p1, l.p0, l.q1, l.q0) {
+        return false;
+    }
+    if !both_near(t.f, l.p2, l.p0, l.q2, l.q0) {
+        return false;
+    }
+    if wd < 8 {
+        return true;
+    }
+    both_near(t.f, l.p3, l.p0, l.q3, l.q0)
+}
+
+fn flat_mask2(t: Bounds, l: Line) -> bool
+    ensures { λ r. ⌜ r ≡ flatMask2 t (of l) ⌝ }
+{
+    if !both_near(t.f, l.p4, l.p0, l.q4, l.q0) {
+        return false;
+    }
+    if !both_near(t.f, l.p5, l.p0, l.q5, l.q0) {
+        return false;
+    }
+    both_near(t.f, l.p6, l.p0, l.q6, l.q0)
+}
+
+pub fn hev_mask(t: Bounds, l: Line) -> bool
+    ensures { λ r. ⌜ r ≡ hevMask t (of l) ⌝ }
+{
+    (distance(l.p1, l.p0) > t.h) | (distance(l.q1, l.q0) > t.h)
+}
+
+// Which filter: 0 none, 1 the narrow one, else the wide one that changes so many samples a side.
+pub fn choose(wd: u32, t: Bounds, l: Line) -> u32
+    requires { ⌜ filterMask 4 t (of l) ≡ true ⌝ }
+    ensures { λ r. ⌜ r ≡ choice wd t (of l) ⌝ }
+{
+    if !filter_mask(wd, t, l) {
+        return 0;
+    }
+    if wd == 4 {
+        return 1;
+    }
+    if !flat_mask(wd, t, l) {
+        return 1;
+    }
+    if wd == 6 {
+        return 2;
+    }
+    if wd != 16 {
+        return 3;
+    }
+    if flat_mask2(t, l) { 6 } else { 3 }
+}
+
+fn clamp(half: u32, v: u32) -> u32
+    requires { ⌜ (0 < half) × (half ≤ 2048) ⌝ }
+    ensures { λ r. ⌜ (subℕ r (8 * half) ≡ filter4_clamp half (subℕ v (8 * half))) × (7 * half ≤ r) × (r < 9 * half) ⌝ }
+{
+    if v < 7 * half {
+        return 7 * half;
+    }
+    if v < 9 * half { v } else { 9 * half - 1 }
+}
+
+fn base_filter(half: u32, hev: bool, l: Line) -> u32
+    requires { ⌜ (0 < half) × (half ≤ 2048) × (l .p1 < 2 * half) × (l .p0 < 2 * half) × (l .q0 < 2 * half) × (l .q1 < 2 * half) ⌝ }
+    ensures { λ r. ⌜ (subℕ r (8 * half) ≡ baseFilter half hev (of l)) × (7 * half ≤ r) × (r < 9 * half) ⌝ }
+{
+    let p0 = l.p0 as u32;
+    let q0 = l.q0 as u32;
+    if hev {
+        let c = clamp(half, 8 * half + l.p1 as u32 - l.q1 as u32);
+        return clamp(half, c + 3 * q0 - 3 * p0);
+    }
+    clamp(half, 8 * half + 3 * q0 - 3 * p0)
+}
+
+fn eighth(half: u32, f: u32, k: u32) -> u32
+    requires { ⌜ (0 < half) × (half ≤ 2048) × (7 * half ≤ f) × (f < 9 * half) × (k ≤ 4) ⌝ }
+    ensures { λ r. ⌜ (subℕ r half ≡ filter12 half k (subℕ f (8 * half))) × (r < 2 * half) ⌝ }
+{
+    clamp(half, f + k) / 8
+}
+
+// The sample s moved by a - b.
+fn move_by(half: u32, s: u16, a: u32, b: u32) -> u16
+    requires { ⌜ (0 < half) × (half ≤ 2048) × (s < 2 * half) × (a ≤ 8192) × (b ≤ 8192) ⌝ }
+    ensures { λ r. ⌜ r ≡ moved half s (subℕ a b) ⌝ }
+{
+    let up = s as u32 + a;
+    if up < b {
+        return 0;
+    }
+    let x = up - b;
+    if x < 2 * half {
+        return x as u16;
+    }
+    (2 * half - 1) as u16
+}
+
+pub fn narrow4(half: u32, hev: bool, l: Line) -> Line
+    requires { ⌜ (0 < half) × (half ≤ 2048) × (l .p1 < 2 * half) × (l .p0 < 2 * half) × (l .q0 < 2 * half) × (l .q1 < 2 * half) ⌝ }
+    ensures { λ r. ⌜ r ≡ make (narrow half hev (of l)) ⌝ }
+{
+    let f = base_filter(half, hev, l);
+    let f1 = eighth(half, f, 4);
+    let f2 = eighth(half, f, 3);
+    let mut r = l;
+    r.p0 = move_by(half, l.p0, f2, half);
+    r.q0 = move_by(half, l.q0, half, f1);
+    if hev {
+        return r;
+    }
+    let f3 = (f1 + 1 + half) / 2;
+    r.p1 = move_by(half, l.p1, f3, half);
+    r.q1 = move_by(half, l.q1, half, f3);
+    r
+}
+
+fn tap5(a0: u16, a1: u16, a2: u16, a3: u16, a4: u16) -> u16
+    ensures { λ r. ⌜ r ≡ (sumTo (λ j. tap 2 1 j * getD (a0 ∷ a1 ∷ a2 ∷ a3 ∷ a4 ∷ []) j 0) 5 + 4) / 8 ⌝ }
+{
+    (((a0 as u32) + 2 * (a1 as u32) + 2 * (a2 as u32) + 2 * (a3 as u32) + (a4 as u32) + 4)
+        >> 3) as u16
+}
+
+pub fn wide6(l: Line) -> Line
+    ensures { λ r. ⌜ r ≡ make (wide 2 1 3 (of l)) ⌝ }
+{
+    let mut r = l;
+    r.p1 = tap5(l.p2, l.p2, l.p1, l.p0, l.q0);
+    r.p0 = tap5(l.p2, l.p1, l.p0, l.q0, l.q1);
+    r.q0 = tap5(l.p1, l.p0, l.q0, l.q1, l.q2);
+    r.q1 = tap5(l.p0, l.q0, l.q1, l.q2, l.q2);
+    r
+}
+
+fn tap7(a0: u16, a1: u16, a2: u16, a3: u16, a4: u16, a5: u16, a6: u16) -> u16
+    ensures { λ r. ⌜ r ≡ (sumTo (λ j. tap 3 0 j * getD (a0 ∷ a1 ∷ a2 ∷ a3 ∷ a4 ∷ a5 ∷ a6 ∷ []) j 0) 7 + 4) / 8 ⌝ }
+{
+    (((a0 as u32)
+        + (a1 as u32)
+        + (a2 as u32)
+        + 2 * (a3 as u32)
+        + (a4 as u32)
+        + (a5 as u32)
+        + (a6 as u32)
+        + 4)
+        >> 3) as u16
+}
+
+pub fn wide8(l: Line) -> Line
+    ensures { λ r. ⌜ r ≡ make (wide 3 0 3 (of l)) ⌝ }
+{
+    let mut r = l;
+    r.p2 = tap7(l.p3, l.p3, l.p3, l.p2, l.p1, l.p0, l.q0);
+    r.p1 = tap7(l.p3, l.p3, l.p2, l.p1, l.p0, l.q0, l.q1);
+    r.p0 = tap7(l.p3, l.p2, l.p1, l.p0, l.q0, l.q1, l.q2);
+    r.q0 = tap7(l.p2, l.p1, l.p0, l.q0, l.q1, l.q2, l.q3);
+    r.q1 = tap7(l.p1, l.p0, l.q0, l.q1, l.q2, l.q3, l.q3);
+    r.q2 = tap7(l.p0, l.q0, l.q1, l.q2, l.q3, l.q3, l.q3);
+    r
+}
+
+fn tap13(
+    a0: u16,
+    a1: u16,
+    a2: u16,
+    a3: u16,
+    a4: u16,
+    a5: u16,
+    a6: u16,
+    a7: u16,
+    a8: u16,
+    a9: u16,
+    a10: u16,
+    a11: u16,
+    a12: u16,
+) -> u16
+    ensures { λ r. ⌜ r ≡ (sumTo (λ j. tap 6 1 j * getD (a0 ∷ a1 ∷ a2 ∷ a3 ∷ a4 ∷ a5 ∷ a6 ∷ a7 ∷ a8 ∷ a9 ∷ a10 ∷ a11 ∷ a12 ∷ []) j 0) 13 + 8) / 16 ⌝ }
+{
+    (((a0 as u32)
+        + (a1 as u32)
+        + (a2 as u32)
+        + (a3 as u32)
+        + (a4 as u32)
+        + 2 * (a5 as u32)
+        + 2 * (a6 as u32)
+        + 2 * (a7 as u32)
+        + (a8 as u32)
+        + (a9 as u32)
+        + (a10 as u32)
+        + (a11 as u32)
+        + (a12 as u32)
+        + 8)
+        >> 4) as u16
+}
+
+pub fn wide16(l: Line) -> Line
+    ensures { λ r. ⌜ r ≡ make (wide 6 1 4 (of l)) ⌝ }
+{
+    let p6 = l.p6;
+    let p5 = l.p5;
+    let p4 = l.p4;
+    let p3 = l.p3;
+    let p2 = l.p2;
+    let p1 = l.p1;
+    let p0 = l.p0;
+    let q0 = l.q0;
+    let q1 = l.q1;
+    let q2 = l.q2;
+    let q3 = l.q3;
+    let q4 = l.q4;
+    let q5 = l.q5;
+    let q6 = l.q6;
+    let mut r = l;
+    r.p5 = tap13(p6, p6, p6, p6, p6, p6, p5, p4, p3, p2, p1, p0, q0);
+    r.p4 = tap13(p6, p6, p6, p6, p6, p5, p4, p3, p2, p1, p0, q0, q1);
+    r.p3 = tap13(p6, p6, p6, p6, p5, p4, p3, p2, p1, p0, q0, q1, q2);
+    r.p2 = tap13(p6, p6, p6, p5, p4, p3, p2, p1, p0, q0, q1, q2, q3);
+    r.p1 = tap13(p6, p6, p5, p4, p3, p2, p1, p0, q0, q1, q2, q3, q4);
+    r.p0 = tap13(p6, p5, p4, p3, p2, p1, p0, q0, q1, q2, q3, q4, q5);
+    r.q0 = tap13(p5, p4, p3, p2, p1, p0, q0, q1, q2, q3, q4, q5, q6);
+    r.q1 = tap13(p4, p3, p2, p1, p0, q0, q1, q2, q3, q4, q5, q6, q6);
+    r.q2 = tap13(p3, p2, p1, p0, q0, q1, q2, q3, q4, q5, q6, q6, q6);
+    r.q3 = tap13(p2, p1, p0, q0, q1, q2, q3, q4, q5, q6, q6, q6, q6);
+    r.q4 = tap13(p1, p0, q0, q1, q2, q3, q4, q5, q6, q6, q6, q6, q6);
+    r.q5 = tap13(p0, q0, q1, q2, q3, q4, q5, q6, q6, q6, q6, q6, q6);
+    r
+}
+
+pub fn line_laws()
+    ensures { λ _. ⌜ LineLaws ⌝ }
+{}

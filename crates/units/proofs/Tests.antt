@@ -1,0 +1,32 @@
+-- What each test tells, from the comparisons that it is made of.
+use mathlib.Core.Path.{_≡_}
+use mathlib.Core.Logic.{_⊎_}
+use Prim.Native.Nat.{ℕ, _*_, _≤_}
+use Rattle.loops.specs.Exactly.{Reflects}
+use Rattle.loops.proofs.Reflected.{reflects-leb, reflects-eqb, reflects-not, reflects-and, reflects-or}
+use Rattle.units.specs.Layout.{layoutOk, hasChroma}
+use Rattle.units.specs.Frame.{frameOk, frameRecords, superblockOk}
+use Rattle.units.specs.Memory.{levelsOk, planeOk, masksOk}
+
+pub reflects-layout : (layout : ℕ) → Reflects (layoutOk layout) (((layout ≡ 400) ⊎ (layout ≡ 420)) ⊎ ((layout ≡ 422) ⊎ (layout ≡ 444)))
+reflects-layout layout =
+    reflects-or (reflects-or (reflects-eqb layout 400) (reflects-eqb layout 420)) (reflects-or (reflects-eqb layout 422) (reflects-eqb layout 444))
+
+pub reflects-chroma : (layout : ℕ) → Reflects (hasChroma layout) (¬ (layout ≡ 400))
+reflects-chroma layout = reflects-not (reflects-eqb layout 400)
+
+pub reflects-frame : (width height : ℕ) → Reflects (frameOk width height) (((1 ≤ width) × (width ≤ 16384)) × ((1 ≤ height) × (height ≤ 16384)))
+reflects-frame width height =
+    reflects-and (reflects-and (reflects-leb 1 width) (reflects-leb width 16384)) (reflects-and (reflects-leb 1 height) (reflects-leb height 16384))
+
+pub reflects-superblock : (size : ℕ) → Reflects (superblockOk size) ((size ≡ 64) ⊎ (size ≡ 128))
+reflects-superblock size = reflects-or (reflects-eqb size 64) (reflects-eqb size 128)
+
+pub reflects-levels : (len stride w4 h4 : ℕ) → Reflects (levelsOk len stride w4 h4) ((w4 ≤ stride) × (4 * stride * h4 ≤ len))
+reflects-levels len stride w4 h4 = reflects-and (reflects-leb w4 stride) (reflects-leb (4 * stride * h4) len)
+
+pub reflects-plane : (len stride wide high : ℕ) → Reflects (planeOk len stride wide high) ((wide ≤ stride) × (stride * high ≤ len))
+reflects-plane len stride wide high = reflects-and (reflects-leb wide stride) (reflects-leb (stride * high) len)
+
+pub reflects-masks : (len w4 h4 : ℕ) → Reflects (masksOk len w4 h4) (640 * frameRecords w4 h4 ≤ len)
+reflects-masks len w4 h4 = reflects-leb (640 * frameRecords w4 h4) len

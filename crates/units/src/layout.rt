@@ -1,0 +1,27 @@
+// Layouts, by their numbers 400, 420, 422 and 444.
+ghost use mathlib.Core.Path.{_≡_};
+ghost use Rattle.units.specs.Layout.{layoutOk, hasChroma, ssHor, ssVer};
+
+pub fn layout_ok(layout: usize) -> bool
+    ensures { λ r. ⌜ r ≡ layoutOk layout ⌝ }
+{
+    ((layout == 400) | (layout == 420)) | ((layout == 422) | (layout == 444))
+}
+
+pub fn has_chroma(layout: usize) -> bool
+    ensures { λ r. ⌜ r ≡ hasChroma layout ⌝ }
+{
+    layout != 400
+}
+
+pub fn ss_hor(layout: usize) -> usize
+    ensures { λ r. ⌜ r ≡ ssHor layout ⌝ }
+{
+    (layout != 444) as usize
+}
+
+pub fn ss_ver(layout: usize) -> usize
+    ensures { λ r. ⌜ r ≡ ssVer layout ⌝ }
+{
+    (layout == 420) as usize
+}
