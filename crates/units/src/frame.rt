@@ -3,7 +3,7 @@ use crate::LumaUnit;
 use crate::Sample;
 ghost use mathlib.Core.Path.{_≡_};
 ghost use Prim.Native.Nat.{_<_, _≤_};
-ghost use Rattle.units.specs.Frame.{frameOk, stored, records, frameRecords, recordOf, superblockOk, superblockUnits, superblocks};
+ghost use Rattle.units.specs.Frame.{frameOk, stored, records, recordOf, superblockOk, superblockUnits, superblocks};
 
 pub fn frame_ok(width: Sample, height: Sample) -> bool
     ensures { λ r. ⌜ r ≡ frameOk (width .0) (height .0) ⌝ }

@@ -9,7 +9,7 @@ ghost use Prim.Native.Nat.{_*_, _^_, _<_, _≤_};
 ghost use lib.Dec.{leb};
 ghost use Rattle.units.specs.Memory.{levelAt, levelsOk, planeOk, masksOk, lumaWord, chromaWord, halfUnits, lumaBit, chromaBit};
 
-// Lines of `stride` cells, of which `wide` are used. No product is taken that could be too large.
+// Lines of `stride` cells, at least `wide` of them; by a quotient, since the product may be too large.
 fn lines_ok(len: usize, stride: usize, wide: usize, lines: usize) -> bool
     requires { ⌜ 0 < lines ⌝ }
     ensures { λ r. ⌜ r ≡ (leb wide stride && leb (stride * lines) len) ⌝ }
@@ -45,17 +45,17 @@ fn level_at(stride: usize, x: usize, y: usize, kind: usize) -> usize
     4 * (y * stride + x) + kind
 }
 
-// Of luma, kind is the pass.
+// kind is the pass.
 pub fn luma_level_at(stride: usize, x: LumaUnit, y: LumaUnit, kind: usize) -> usize
-    requires { ⌜ levelAt stride (x .0) (y .0) kind < 2 ^ 64 ⌝ }
+    requires { ⌜ (kind < 2) × (levelAt stride (x .0) (y .0) kind < 2 ^ 64) ⌝ }
     ensures { λ r. ⌜ r ≡ levelAt stride (x .0) (y .0) kind ⌝ }
 {
     level_at(stride, x.0, y.0, kind)
 }
 
-// Of chroma, kind is 2 for U and 3 for V.
+// kind is 2 for U and 3 for V.
 pub fn chroma_level_at(stride: usize, x: ChromaUnit, y: ChromaUnit, kind: usize) -> usize
-    requires { ⌜ levelAt stride (x .0) (y .0) kind < 2 ^ 64 ⌝ }
+    requires { ⌜ (2 ≤ kind) × (kind < 4) × (levelAt stride (x .0) (y .0) kind < 2 ^ 64) ⌝ }
     ensures { λ r. ⌜ r ≡ levelAt stride (x .0) (y .0) kind ⌝ }
 {
     level_at(stride, x.0, y.0, kind)

@@ -1,23 +1,24 @@
-// The numbers that a call returns: the lowest of those that are given.
+// The numbers that a call returns, as document 01 gives them; of several the lowest.
 
+// done
 pub const DONE: u32 = 0;
 
 // sharpness above 7
 pub const SHARPNESS: u32 = 1;
 
-// a base level, a delta, or a chroma base level at 4:0:0
+// base level above 63, a delta outside its range, or a chroma base level other than 0 at 4:0:0
 pub const LEVEL: u32 = 2;
 
 // depth not 8, 10 or 12
 pub const DEPTH: u32 = 3;
 
-// layout, frame size, superblock size, or a chroma pair at 4:0:0
+// layout, frame size or superblock size not as it may be, or a chroma pair given at 4:0:0
 pub const SHAPE: u32 = 4;
 
-// a block's size, transform, place or reference
+// block size, transform or reference out of its range, place not the block's, or a transform that does not fit the block
 pub const BLOCK: u32 = 5;
 
-// a context too short, or a value of it above its range
+// a context with too few bytes, or with a value above its range
 pub const CONTEXT: u32 = 6;
 
 // levels or masks too short, or stride below w4
@@ -26,7 +27,7 @@ pub const LENGTH: u32 = 7;
 // a level byte above 63
 pub const LEVEL_BYTE: u32 = 8;
 
-// a plane too short, its stride below the stored width, or a sample above the depth's maximum
+// plane too short, its stride below the stored width, or a sample above the depth's maximum
 pub const PLANE: u32 = 9;
 
 // superblock row or tile start outside the frame
