@@ -1,11 +1,10 @@
 -- Units, records, level bytes and mask bits lie within their frame and memory, and no two edges share a bit: `omega`, at ss 0 and at ss 1.
 use mathlib.Core.Path.{_≡_, sym, ap₂, _∙_}
-use mathlib.Core.Bool.{Bool, true, false, not}
+use mathlib.Core.Bool.{Bool, true, false, cond}
 use Prim.Native.Nat.{ℕ, _+_, _*_, _/_, _%_, _^_, _<_, _≤_}
 use native.Mathlib.Nat.{div-add-mod', le-div-iff-mul-le, suc-mul, mul-comm}
 use native.Mathlib.Omega.{arith}
 use lib.Dec.{eqb}
-use mir.Val.{boolByte}
 use Rattle.loops.specs.Exactly.{Exactly}
 use Rattle.loops.proofs.Tables.{each-at}
 use Rattle.loops.proofs.Lists.{row-in}
@@ -14,9 +13,9 @@ use Rattle.units.specs.Layout.{ssHor, ssVer}
 use Rattle.units.specs.Frame.{stored, records, frameRecords, recordOf, superblocks}
 use Rattle.units.specs.Memory.{levelAt, chromaWord, halfUnits, lumaBit, chromaBit}
 
-flag-le : (b : Bool) → boolByte b ≤ 1
-flag-le true = omega arith
-flag-le false = omega arith
+flag-le : (b : Bool) (m n : ℕ) → m ≤ 1 → n ≤ 1 → cond b m n ≤ 1
+flag-le true m n p q = p
+flag-le false m n p q = q
 
 -- what holds at ss 0 and at ss 1
 by-ss : (P : ℕ → Type 0) → P 0 → P 1 → (ss : ℕ) → ss ≤ 1 → P ss
@@ -34,10 +33,10 @@ pub chroma-units-in : (n ss : ℕ) → ss ≤ 1 → n ≤ 32 → chromaUnits ss 
 chroma-units-in n = by-ss (λ ss. n ≤ 32 → chromaUnits ss n ≤ 2 * halfUnits ss) (λ h. omega arith) (λ h. omega arith)
 
 pub ss-hor-le : (layout : ℕ) → ssHor layout ≤ 1
-ss-hor-le layout = flag-le (not (eqb layout 444))
+ss-hor-le layout = flag-le (eqb layout 444) 0 1 (omega arith) (omega arith)
 
 pub ss-ver-le : (layout : ℕ) → ssVer layout ≤ 1
-ss-ver-le layout = flag-le (eqb layout 420)
+ss-ver-le layout = flag-le (eqb layout 420) 1 0 (omega arith) (omega arith)
 
 pub record-in : (w4 h4 x y : ℕ) → x < w4 → y < h4 → recordOf w4 x y < frameRecords w4 h4
 record-in w4 h4 x y p q = omega (arith, row-in (y / 32) (records h4) (records w4) (omega arith), mul-comm (records w4) (records h4))

@@ -1,7 +1,7 @@
 -- The class of a transform's side, and the rules behind the standard's sizes. Sides are in units.
 --   log2 n                    the greatest k with 2 ^ k ≤ n, for n from 1 to 63
 --   lumaClass n               log2, at most 2
---   chromaClass n             1 if above one unit (boolByte is 1 of true and 0 of false)
+--   chromaClass n             1 if above one unit
 --   Side n most               a power of two, from 1 to most
 --   Ratio w h                 neither is more than four times the other
 --   blockOrder, txOrder       the sizes (w, h) in the order of their codes
@@ -14,7 +14,6 @@ use mathlib.Core.List.{List, [], _∷_, _++_, flatMap}
 use Prim.Native.Nat.{ℕ, _*_, _/_, _^_, _<_, _≤_, min}
 use lib.Dec.{ltb}
 use lib.ListN.{getD}
-use mir.Val.{boolByte}
 use Rattle.standard.specs.Sizes.{Num_4x4_Blocks_Wide, Num_4x4_Blocks_High, Tx_Wide, Tx_High, Split_Tx_Size, Max_Tx_Size_Rect}
 
 unfoldable pub log2 : ℕ → ℕ
@@ -25,7 +24,7 @@ abbrev pub lumaClass : ℕ → ℕ
 lumaClass n = min 2 (log2 n)
 
 abbrev pub chromaClass : ℕ → ℕ
-chromaClass n = boolByte (ltb 1 n)
+chromaClass n = cond (ltb 1 n) 1 0
 
 pub record Side (n most : ℕ) : Type 0 where
   pub power : 2 ^ log2 n ≡ n

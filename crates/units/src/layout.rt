@@ -17,11 +17,11 @@ pub fn has_chroma(layout: usize) -> bool
 pub fn ss_hor(layout: usize) -> usize
     ensures { λ r. ⌜ r ≡ ssHor layout ⌝ }
 {
-    (layout != 444) as usize
+    if layout == 444 { 0 } else { 1 }
 }
 
 pub fn ss_ver(layout: usize) -> usize
     ensures { λ r. ⌜ r ≡ ssVer layout ⌝ }
 {
-    (layout == 420) as usize
+    if layout == 420 { 1 } else { 0 }
 }

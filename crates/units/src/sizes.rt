@@ -175,5 +175,5 @@ pub fn luma_class(side: LumaUnit) -> u8
 pub fn chroma_class(side: ChromaUnit) -> u8
     ensures { λ r. ⌜ r ≡ chromaClass (side .0) ⌝ }
 {
-    (1 < side.0) as u8
+    if 1 < side.0 { 1 } else { 0 }
 }
