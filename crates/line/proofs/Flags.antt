@@ -7,6 +7,7 @@ use lib.Dec.{leb, ltb}
 use Rattle.standard.specs.Math.{dist}
 use Rattle.standard.specs.Masks.{near, filterMask}
 use Rattle.standard.specs.declared.Bounds.{Bounds}
+use Rattle.line.specs.Choice.{choice}
 
 pub no : {r b : Bool} → r ≡ b → not r ≡ true → b ≡ false
 no {r} e h = sym e ∙ not-true r h
@@ -32,3 +33,7 @@ module _ (len : ℕ) (t : Bounds) (x : ℕ → ℕ) where
   pub beyond : filterMask 4 t x ≡ true → filterMask len t x ≡ (middle && outer)
   unfolding filterMask
   beyond h = rw (and-true inner ∙ h)
+
+  pub inner-fails : filterMask 4 t x ≡ false → choice len t x ≡ 0
+  unfolding filterMask choice
+  inner-fails h = rw (and-true inner ∙ h)

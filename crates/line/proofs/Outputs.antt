@@ -1,6 +1,7 @@
 -- A filtered line is the output of its choice, by cases on the tests; and each output changes, keeps in range and looks at only what it
 -- may, by cases on whether a place is within reach.
 use mathlib.Core.Path.{_≡_, refl, _∙_, sym, ap, ap₂}
+use mathlib.Core.Logic.{_≢_}
 use mathlib.Core.Bool.{Bool, true, false, cond, not, _&&_, _||_}
 use mathlib.Core.List.{List, [], _∷_}
 use Prim.Native.Nat.{ℕ, zero, suc, _+_, _-_, _*_, _≤_, _<_}
@@ -53,6 +54,15 @@ each sixteen t x P p q r =
     either P (not (filterMask 16 t x)) 0 _ p
     (either P (not (flatMask 16 t x)) 1 _ q (either P (not (flatMask2 t x)) 3 6 (r 3 wide8-of-16) (r 6 wide16)))
 
+pub wide-of : {len : ℕ} → Width len → (t : Bounds) (x : ℕ → ℕ) → 2 ≤ choice len t x → Wide len (choice len t x)
+wide-of {len} w t x = each w t x (λ n. 2 ≤ n → Wide len n) (λ h. absurd (omega arith)) (λ h. absurd (omega arith)) (λ n f h. f)
+
+pub last-wide : {len n : ℕ} → Wide len n → n ≢ 2 → n ≢ 3 → n ≡ 6
+last-wide wide6 a b = absurd (a refl)
+last-wide wide8 a b = absurd (b refl)
+last-wide wide8-of-16 a b = absurd (b refl)
+last-wide wide16 a b = refl
+
 -- ---- what a width and its wide filters read and change
 pub two-written : {len : ℕ} → Width len → 2 ≤ writes len
 two-written four = omega arith
@@ -78,13 +88,13 @@ wide-writes wide8 = omega arith
 wide-writes wide8-of-16 = omega arith
 wide-writes wide16 = omega arith
 
-two-read : {len : ℕ} → Width len → 2 ≤ reads len
+pub two-read : {len : ℕ} → Width len → 2 ≤ reads len
 two-read four = omega arith
 two-read six = omega arith
 two-read eight = omega arith
 two-read sixteen = omega arith
 
-wide-reads : {len n : ℕ} → Wide len n → n + 1 ≤ reads len
+pub wide-reads : {len n : ℕ} → Wide len n → n + 1 ≤ reads len
 wide-reads wide6 = omega arith
 wide-reads wide8 = omega arith
 wide-reads wide8-of-16 = omega arith
@@ -114,11 +124,11 @@ reached n k u v P p q = go (leb (8 - n) k) refl (ltb k (8 + n)) refl
     go true e false f = let m = ltb-false k (8 + n) f in q (λ w. omega (arith, w .to))
     go false e b f = let l = leb-false (8 - n) k e in q (λ w. omega (arith, w .from))
 
-fewer : {m n k : ℕ} → m ≤ n → Within m k → Within n k
+pub fewer : {m n k : ℕ} → m ≤ n → Within m k → Within n k
 fewer h w = record { from = omega (arith, w .from); to = omega (arith, w .to) }
 
 -- a place that is within reach by computation
-lit : {n k : ℕ} → T (leb 8 (k + n)) → T (leb (suc k) (8 + n)) → Within n k
+pub lit : {n k : ℕ} → T (leb 8 (k + n)) → T (leb (suc k) (8 + n)) → Within n k
 lit a b = record { from = lit≤ a; to = lit≤ b }
 
 -- ---- an output changes only what is within reach
@@ -141,6 +151,13 @@ wide-between {len} {n} f t x lo hi h k i =
     (reached n k (wideAt n (shape f .n2) (shape f .log) x k) (x k) (λ v. (lo ≤ v) × (v ≤ hi))
     (λ _. between (shape f .form) x k lo hi h) (λ j. absurd (j i)))
 
+pub wide-in : {n n2 g : ℕ} → Form n n2 g → (m : ℕ) (x : ℕ → ℕ) → Below m (n + 1) x → (k : ℕ) → x k < m → wide n n2 g x k < m
+unfolding wide
+wide-in {n} {n2} {g} f m x h k i =
+    reached n k (wideAt n n2 g x k) (x k) (λ v. v < m)
+    (λ _. let b = between f x k 0 (m - 1) (λ j v. (omega arith, omega (arith, h .below j v))) .1 in omega arith)
+    (λ _. i)
+
 four-below : (m a b c d i : ℕ) → a < m → b < m → c < m → d < m → getD (a ∷ b ∷ c ∷ d ∷ []) i 0 < m
 four-below m a b c d zero ha hb hc hd = ha
 four-below m a b c d (suc zero) ha hb hc hd = hb
@@ -150,7 +167,7 @@ four-below m a b c d (suc (suc (suc (suc i)))) ha hb hc hd = omega arith
 
 module _ {len : ℕ} (w : Width len) (t : Bounds) (p : 0 < t .half) (x : ℕ → ℕ) (h : Below (2 * t .half) (reads len) x)
     (k : ℕ) (i : Within (reads len) k) where
-  narrow-below : output 1 t x k < 2 * t .half
+  pub narrow-below : output 1 t x k < 2 * t .half
   unfolding output narrow narrowed
   narrow-below =
       let m : (s : ℕ) (d : ℤ) → moved (t .half) s d < 2 * t .half = λ s d. moved-below (t .half) s d p in
@@ -161,12 +178,7 @@ module _ {len : ℕ} (w : Width len) (t : Bounds) (p : 0 < t .half) (x : ℕ →
       (λ _. h .below k i)
 
   wide-below : {n : ℕ} → Wide len n → output n t x k < 2 * t .half
-  unfolding wide
-  wide-below {n} f =
-      rw (shape f .is t x k)
-      (reached n k (wideAt n (shape f .n2) (shape f .log) x k) (x k) (λ v. v < 2 * t .half)
-      (λ _. let b = between (shape f .form) x k 0 (2 * t .half - 1) (λ j v. (omega arith, omega (arith, h .below j (fewer (wide-reads f) v)))) .1 in omega arith)
-      (λ _. h .below k i))
+  wide-below f = rw (shape f .is t x k) (wide-in (shape f .form) (2 * t .half) x (record { below = λ j v. h .below j (fewer (wide-reads f) v) }) k (h .below k i))
 
   pub output-below : output (choice len t x) t x k < 2 * t .half
   unfolding output
@@ -198,6 +210,10 @@ module _ {len : ℕ} (w : Width len) (t : Bounds) (x y : ℕ → ℕ) (s : Same 
   pub output-agree : output (choice len t x) t x k ≡ output (choice len t x) t y k
   unfolding output
   output-agree = each w t x (λ n. output n t x k ≡ output n t y k) (s .same k i) narrow-agree (λ n f. wide-agree f)
+
+pub inner-agree : (t : Bounds) (x y : ℕ → ℕ) → Same 2 x y → filterMask 4 t x ≡ filterMask 4 t y
+unfolding filterMask
+inner-agree t x y s = rw (at s 6 tt tt, at s 7 tt tt, at s 8 tt tt, at s 9 tt tt)
 
 pub choice-agree : {len : ℕ} → Width len → (t : Bounds) (x y : ℕ → ℕ) → Same (reads len) x y → choice len t x ≡ choice len t y
 unfolding choice filterMask flatMask flatMask2

@@ -28,7 +28,7 @@ abbrev made : ℕ → List ℕ → Change
 made n vs = record { side = n; samples = vs }
 
 module _ {len : ℕ} (w : Width len) (t : Bounds) where
-  side-few : (x : ℕ → ℕ) → side len t x ≤ writes len
+  pub side-few : (x : ℕ → ℕ) → side len t x ≤ writes len
   unfolding side
   side-few x =
       each w t x (λ n. cond (eqb n 1) (cond (hevMask t x) 1 2) n ≤ writes len) (omega arith) (narrow (hevMask t x)) (λ n f. wide n (eqb n 1) f)
