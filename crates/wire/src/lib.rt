@@ -3,7 +3,7 @@ ghost use mathlib.Core.Path.{_≡_};
 ghost use Prim.Native.Nat.{_+_, _*_, _<_, _≤_};
 ghost use lib.ListN.{length};
 
-fn byte(b: &[u8], at: usize) -> u32
+pub fn u8_at(b: &[u8], at: usize) -> u32
     requires { ⌜ at < length (now b) ⌝ }
     ensures { λ r. ⌜ r < 256 ⌝ }
 {
@@ -19,13 +19,13 @@ fn wide(b: u8) -> u32
 pub fn u16_at(b: &[u8], at: usize) -> u16
     requires { ⌜ at + 2 ≤ length (now b) ⌝ }
 {
-    (byte(b, at + 1) * 256 + byte(b, at)) as u16
+    (u8_at(b, at + 1) * 256 + u8_at(b, at)) as u16
 }
 
 pub fn u32_at(b: &[u8], at: usize) -> u32
     requires { ⌜ at + 4 ≤ length (now b) ⌝ }
 {
-    byte(b, at + 3) * 16777216 + byte(b, at + 2) * 65536 + byte(b, at + 1) * 256 + byte(b, at)
+    u8_at(b, at + 3) * 16777216 + u8_at(b, at + 2) * 65536 + u8_at(b, at + 1) * 256 + u8_at(b, at)
 }
 
 fn signed(b: u8) -> i8 {
