@@ -5,9 +5,6 @@ use mathlib.Core.Bool.{Bool, true, false, cond}
 use mathlib.Core.List.{List, [], _∷_}
 use Prim.Native.Nat.{ℕ, _+_, _-_, _*_, _<_, _≤_}
 use native.Mathlib.Omega.{arith}
-use lib.ListN.{getD}
-use mir.Syntax.{w8}
-use mir.Val.{Fits}
 use Rattle.standard.specs.Masks.{hevMask}
 use Rattle.standard.specs.Narrow.{narrow}
 use Rattle.standard.specs.Wide.{wide}
@@ -19,7 +16,7 @@ use Rattle.line.specs.Width.{four, Below}
 use Rattle.line.specs.declared.Line.{Line}
 use Rattle.line.proofs.Sums.{Form}
 use Rattle.line.proofs.Outputs.{lit, fewer, narrow-below, wide-in}
-use Rattle.piece.specs.Samples.{index, across, stored}
+use Rattle.piece.specs.Samples.{stored}
 
 module _ (t : Bounds) (l r : Line) (v : Bool) (ev : v ≡ hevMask t (of l)) (er : r ≡ make (narrow (t .half) v (of l))) where
   module _ (q st : ℕ) (s s′ : List ℕ) where
@@ -42,10 +39,6 @@ module _ (t : Bounds) (l r : Line) (v : Bool) (ev : v ≡ hevMask t (of l)) (er 
 
 pub wide-bytes : {n n2 g : ℕ} → Form n n2 g → (l : Line) → Below 256 (n + 1) (of l) → Below 256 (n + 1) (wide n n2 g (of l))
 wide-bytes f l b = record { below = λ k i. wide-in f 256 (of l) b k (b .below k i) }
-
--- samples of a byte are below 256
-pub bytes-below : (s : List ℕ) → ((k : ℕ) → Fits w8 (getD s k 0)) → (n q st : ℕ) → Below 256 n (across q st s)
-bytes-below s h n q st = record { below = λ k i. omega (arith, h (index q st k)) }
 
 -- the thresholds of depth 8, with its constants written out
 pub depth-8 : (t : Bounds) → t .f ≡ 1 → t .half ≡ 128 → record { e = t .e; i = t .i; h = t .h; f = 1; half = 128 } ≡ t

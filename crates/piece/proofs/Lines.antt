@@ -8,7 +8,9 @@ use Prim.Native.Nat.{ℕ, zero, suc, _+_, _-_, _*_, _≤_, _<_}
 use native.Mathlib.Nat.{mul-le-mul-right}
 use native.Mathlib.Omega.{arith}
 use lib.Dec.{eqb}
-use lib.ListN.{getD, set}
+use lib.ListN.{length, getD}
+use mir.Syntax.{w8}
+use mir.Val.{Fits}
 use Rattle.loops.specs.Run.{upTo}
 use Rattle.standard.specs.Masks.{hevMask, filterMask}
 use Rattle.standard.specs.Line.{filtered}
@@ -39,59 +41,71 @@ module _ {len : ℕ} (w : Width len) (t : Bounds) (q st : ℕ) (s : List ℕ) (l
   unfolding changed change put side
   kept y e n = sym (by-samples y e ∙ rw n refl)
 
-  -- p1 p0 q0 q1 alone, and then all that the width reads
-  module _ (a : Line) (ea : a ≡ make (seen 2 (across q st s))) where
-    inner-same : Same 2 (of a) (across q st s)
-    inner-same = read-same 2 (across q st s) a (omega arith) ea
+  -- where p1 p0 q0 q1 fail
+  pub failed-line : (a : Line) → a ≡ make (seen 2 (across q st s)) → filterMask 4 t (of a) ≡ false → s ≡ lineAt st (rule len t) q s
+  failed-line a ea f =
+      kept (across q st s) (record { same = λ k i. refl })
+      (inner-fails len t (across q st s) (sym (inner-agree t (of a) (across q st s) (read-same 2 (across q st s) a (omega arith) ea)) ∙ f))
 
-    pub failed-line : filterMask 4 t (of a) ≡ false → s ≡ lineAt st (rule len t) q s
-    failed-line f =
-        kept (across q st s) (record { same = λ k i. refl })
-        (inner-fails len t (across q st s) (sym (inner-agree t (of a) (across q st s) inner-same) ∙ f))
+-- a line that lies in the list, and the struct that holds what its width reads
+pub record Read (len q st : ℕ) (s : List ℕ) (l : Line) : Type 0 where
+  pub width : Width len
+  pub low : reads len * st ≤ q
+  pub high : q + (reads len - 1) * st < length s
+  pub holds : l ≡ make (seen (reads len) (across q st s))
 
-  module _ (l : Line) (el : l ≡ make (seen (reads len) (across q st s))) where
-    as-read : Same (reads len) (of l) (across q st s)
-    as-read = read-same (reads len) (across q st s) l (reads-few w) el
+pub reading : {len : ℕ} {l : Line} (q st : ℕ) (s : List ℕ) → Width len → reads len * st ≤ q → q + (reads len - 1) * st < length s
+    → l ≡ make (seen (reads len) (across q st s)) → Read len q st s l
+reading q st s w a b e = record { width = w; low = a; high = b; holds = e }
 
-    pub passed : (a : Line) → a ≡ make (seen 2 (across q st s)) → filterMask 4 t (of a) ≡ true → filterMask 4 t (of l) ≡ true
-    passed a ea f =
-        inner-agree t (of l) (of a) (record { same = λ k i. as-read .same k (fewer (two-read w) i) ∙ sym (inner-same a ea .same k i) }) ∙ f
+module _ {len q st : ℕ} {s : List ℕ} {l : Line} (d : Read len q st s l) where
+  as-read : Same (reads len) (of l) (across q st s)
+  as-read = read-same (reads len) (across q st s) l (reads-few (d .width)) (d .holds)
 
-    pub kept-line : choice len t (of l) ≡ 0 → s ≡ lineAt st (rule len t) q s
-    kept-line = kept (of l) as-read
+  pub passed : (t : Bounds) (a : Line) → a ≡ make (seen 2 (across q st s)) → filterMask 4 t (of a) ≡ true → filterMask 4 t (of l) ≡ true
+  passed t a ea f =
+      let i = read-same 2 (across q st s) a (omega arith) ea in
+      inner-agree t (of l) (of a) (record { same = λ k v. as-read .same k (fewer (two-read (d .width)) v) ∙ sym (i .same k v) }) ∙ f
 
+  pub below-2 : {m : ℕ} → Below m (reads len) (across q st s) → Below m 2 (of l)
+  below-2 h = record { below = λ k i. let g = fewer (two-read (d .width)) i in rw (as-read .same k g) (h .below k g) }
+
+  -- samples of a byte are below 256
+  pub bytes-below : ((k : ℕ) → Fits w8 (getD s k 0)) → Below 256 (reads len) (across q st s)
+  bytes-below h = record { below = λ k i. omega (arith, h (index q st k)) }
+
+  module _ (t : Bounds) {n : ℕ} (e : choice len t (of l) ≡ n) where
     -- m samples a side of the choice n
-    pub stored-line : (n m : ℕ) (s′ : List ℕ) → choice len t (of l) ≡ n → cond (eqb n 1) (cond (hevMask t (of l)) 1 2) n ≡ m
+    pub stored-line : (m : ℕ) {s′ : List ℕ} → cond (eqb n 1) (cond (hevMask t (of l)) 1 2) n ≡ m
         → s′ ≡ stored st q (output n t (of l)) m s → s′ ≡ lineAt st (rule len t) q s
     unfolding changed change side
-    stored-line n m s′ en em es =
+    stored-line m em es =
         es
         ∙ ap (λ vs. put st (q - m * st) vs s)
         (span-agree (output n t (of l)) (filtered len t (of l)) (2 * m) (8 - m)
-        (λ i a b. ap (λ n. output n t (of l) i) (sym en) ∙ sym (by-choice t (of l) i len)))
-        ∙ ap (λ m. stored st q (filtered len t (of l)) m s) (sym (rw en em))
-        ∙ sym (by-samples (of l) as-read)
+        (λ i a b. ap (λ n. output n t (of l) i) (sym e) ∙ sym (by-choice t (of l) i len)))
+        ∙ ap (λ m. stored st q (filtered len t (of l)) m s) (sym (rw e em))
+        ∙ sym (by-samples (d .width) t q st s (d .low) (of l) as-read)
 
-    -- what a choice asks for
-    pub in-list : (n b : ℕ) → choice len t (of l) ≡ n → 2 ≤ n → q + (reads len - 1) * st < b → (n * st ≤ q) × (q + (n - 1) * st < b)
-    in-list n b en h high =
-        let f = wide-of w t (of l) (rw en h) in
-        closer n (reads len) st q b (let g = wide-reads f in omega arith) low high
+    pub kept-line : n ≡ 0 → s ≡ lineAt st (rule len t) q s
+    kept-line z = kept (d .width) t q st s (d .low) (of l) as-read (e ∙ z)
 
-    pub below-2 : (m : ℕ) → Below m (reads len) (across q st s) → Below m 2 (of l)
-    below-2 m h = record { below = λ k i. let g = fewer (two-read w) i in rw (as-read .same k g) (h .below k g) }
+    wide-reads-of : 2 ≤ n → n + 1 ≤ reads len
+    wide-reads-of h = rw e at (wide-reads (wide-of (d .width) t (of l) (rw e h)))
 
-    pub below-wide : (m n : ℕ) → choice len t (of l) ≡ n → 2 ≤ n → Below m (reads len) (across q st s) → Below m (n + 1) (of l)
-    below-wide m n en h b =
-        let f = wide-of w t (of l) (rw en h) in
-        record { below = λ k i. let g = fewer (rw en at (wide-reads f)) i in rw (as-read .same k g) (b .below k g) }
+    pub in-list : 2 ≤ n → (n * st ≤ q) × (q + (n - 1) * st < length s)
+    in-list h = let g = wide-reads-of h in closer n (reads len) st q (length s) (omega arith) (d .low) (d .high)
 
-    pub last-choice : (n : ℕ) → choice len t (of l) ≡ n → n ≢ 0 → n ≢ 1 → n ≢ 2 → n ≢ 3 → choice len t (of l) ≡ 6
-    last-choice n en a b c d =
-        let f : Wide len n = rw en at (wide-of w t (of l) (rw en (omega (arith, ne n a b)))) in
-        en ∙ last-wide f c d
+    pub below-wide : {m : ℕ} → 2 ≤ n → Below m (reads len) (across q st s) → Below m (n + 1) (of l)
+    below-wide h b = record { below = λ k i. let g = fewer (wide-reads-of h) i in rw (as-read .same k g) (b .below k g) }
+
+    pub last-choice : n ≢ 0 → n ≢ 1 → n ≢ 2 → n ≢ 3 → choice len t (of l) ≡ 6
+    last-choice a b = last n e (at-least-2 n a b)
       where
-        ne : (n : ℕ) → n ≢ 0 → n ≢ 1 → 2 ≤ n
-        ne zero a b = absurd (a refl)
-        ne (suc zero) a b = absurd (b refl)
-        ne (suc (suc n)) a b = omega arith
+        at-least-2 : (n : ℕ) → n ≢ 0 → n ≢ 1 → 2 ≤ n
+        at-least-2 zero a b = absurd (a refl)
+        at-least-2 (suc zero) a b = absurd (b refl)
+        at-least-2 (suc (suc n)) a b = omega arith
+
+        last : (n : ℕ) → choice len t (of l) ≡ n → 2 ≤ n → n ≢ 2 → n ≢ 3 → choice len t (of l) ≡ 6
+        last n e h c d′ = e ∙ last-wide (rw e at (wide-of (d .width) t (of l) (rw e h))) c d′

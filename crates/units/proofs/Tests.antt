@@ -1,16 +1,23 @@
 -- What each test tells, from the comparisons that it is made of.
 use mathlib.Core.Path.{_≡_}
-use mathlib.Core.Logic.{_⊎_}
+use mathlib.Core.Logic.{_⊎_, inl, inr, ⊎-elim}
 use Prim.Native.Nat.{ℕ, _*_, _≤_}
 use Rattle.loops.specs.Exactly.{Reflects}
-use Rattle.loops.proofs.Reflected.{reflects-leb, reflects-eqb, reflects-not, reflects-and, reflects-or}
-use Rattle.units.specs.Layout.{layoutOk, hasChroma}
+use Rattle.loops.proofs.Reflected.{reflects-leb, reflects-eqb, reflects-as, reflects-not, reflects-and, reflects-or}
+use Rattle.units.specs.Layout.{Layout, is-400, is-420, is-422, is-444, layoutOk, hasChroma}
 use Rattle.units.specs.Frame.{frameOk, frameRecords, superblockOk}
 use Rattle.units.specs.Memory.{levelsOk, planeOk, masksOk}
 
-pub reflects-layout : (layout : ℕ) → Reflects (layoutOk layout) (((layout ≡ 400) ⊎ (layout ≡ 420)) ⊎ ((layout ≡ 422) ⊎ (layout ≡ 444)))
+pub reflects-layout : (layout : ℕ) → Reflects (layoutOk layout) (Layout layout)
 reflects-layout layout =
-    reflects-or (reflects-or (reflects-eqb layout 400) (reflects-eqb layout 420)) (reflects-or (reflects-eqb layout 422) (reflects-eqb layout 444))
+    reflects-as (record { only = ⊎-elim (⊎-elim is-400 is-420) (⊎-elim is-422 is-444); always = which })
+    (reflects-or (reflects-or (reflects-eqb layout 400) (reflects-eqb layout 420)) (reflects-or (reflects-eqb layout 422) (reflects-eqb layout 444)))
+  where
+    which : Layout layout → ((layout ≡ 400) ⊎ (layout ≡ 420)) ⊎ ((layout ≡ 422) ⊎ (layout ≡ 444))
+    which (is-400 e) = inl (inl e)
+    which (is-420 e) = inl (inr e)
+    which (is-422 e) = inr (inl e)
+    which (is-444 e) = inr (inr e)
 
 pub reflects-chroma : (layout : ℕ) → Reflects (hasChroma layout) (¬ (layout ≡ 400))
 reflects-chroma layout = reflects-not (reflects-eqb layout 400)

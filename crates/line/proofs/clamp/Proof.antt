@@ -15,7 +15,8 @@ mul-result : tie.Need-mul-result
 mul-result c = search needs
 
 returns : tie.Need-returns
-returns c = let h = c .before .args .half in
+returns c =
+    let h = c .before .args .half in
     (sub-eq (7 * h) (8 * h) 0 h (omega arith) ∙ sym (clamp-low h (c .before .args .v) (8 * h) (omega arith)), omega arith, omega arith)
 
 mul-if2 : tie.Need-mul-if2
@@ -28,11 +29,13 @@ sub-result : tie.Need-sub-result
 sub-result c = search needs
 
 returns-2 : tie.Need-returns-2
-returns-2 c = let a = c .before .before .args in
+returns-2 c =
+    let a = c .before .before .args in
     (sym (clamp-mid (a .half) (a .v) (8 * a .half) (omega arith) (omega arith)), omega arith, omega arith)
 
 returns-3 : tie.Need-returns-3
-returns-3 c = let h = c .before .before .args .half in
+returns-3 c =
+    let h = c .before .before .args .half in
     (sub-eq (9 * h - 1) (8 * h) h 1 (omega arith) ∙ sym (clamp-high h (c .before .before .args .v) (8 * h) (omega arith) (omega arith)), omega arith, omega arith)
 
 pub clamp-spec : {M : Type 1} → statement M

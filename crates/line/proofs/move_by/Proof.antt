@@ -9,7 +9,8 @@ add-up : tie.Need-add-up
 add-up c = search needs
 
 returns : tie.Need-returns
-returns c = let a = c .before .args in moved-low (a .half) (a .s) (a .a) (a .b) (omega arith) (omega arith)
+returns c =
+    let a = c .before .args in moved-low (a .half) (a .s) (a .a) (a .b) (omega arith) (omega arith)
 
 mul-if2 : tie.Need-mul-if2
 mul-if2 c = search needs
@@ -18,7 +19,8 @@ cast-result : tie.Need-cast-result
 cast-result c = search needs
 
 returns-2 : tie.Need-returns-2
-returns-2 c = let a = c .before .before .args in moved-mid (a .half) (a .s) (a .a) (a .b) (omega arith) (omega arith)
+returns-2 c =
+    let a = c .before .before .args in moved-mid (a .half) (a .s) (a .a) (a .b) (omega arith) (omega arith)
 
 mul-result : tie.Need-mul-result
 mul-result c = search needs
@@ -30,7 +32,8 @@ cast-result-2 : tie.Need-cast-result-2
 cast-result-2 c = search needs
 
 returns-3 : tie.Need-returns-3
-returns-3 c = let a = c .before .before .args in moved-high (a .half) (a .s) (a .a) (a .b) (omega arith) (omega arith) (omega arith)
+returns-3 c =
+    let a = c .before .before .args in moved-high (a .half) (a .s) (a .a) (a .b) (omega arith) (omega arith) (omega arith)
 
 pub move-by-spec : {M : Type 1} → statement M
 move-by-spec =

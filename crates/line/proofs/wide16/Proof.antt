@@ -46,7 +46,8 @@ tap13-requires-12 c κs = search needs
 
 returns : tie.Need-returns
 unfolding wide wideAt Round2 Clip3
-returns c = fourteen _ (wide 6 1 4 (of (c .before .before .before .before .before .before .before .before .before .before .before .before .args .l)))
+returns c =
+    fourteen _ (wide 6 1 4 (of (c .before .before .before .before .before .before .before .before .before .before .before .before .args .l)))
     refl
     (c .before .before .before .before .before .before .before .before .before .before .before .tap13 .ensures)
     (c .before .before .before .before .before .before .before .before .before .before .tap132 .ensures)

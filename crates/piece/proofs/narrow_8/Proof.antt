@@ -10,7 +10,8 @@ hev-mask-requires : tie.Need-hev-mask-requires
 hev-mask-requires c κs = search needs
 
 narrow4-requires : tie.Need-narrow4-requires
-narrow4-requires c κs = let p = c .before .before .pre in
+narrow4-requires c κs =
+    let p = c .before .before .pre in
     let b = p .3 .below in (
       omega arith,
       omega arith,
@@ -21,7 +22,8 @@ narrow4-requires c κs = let p = c .before .before .pre in
     )
 
 store1-8-requires : tie.Need-store1-8-requires
-store1-8-requires c κs = let a = c .before .before .before .before .before .args in
+store1-8-requires c κs =
+    let a = c .before .before .before .before .before .args in
     let p = c .before .before .before .before .before .pre in
     let b = narrow-bytes (a .t) (a .l) _ _ (c .before .before .before .hev-mask .ensures) (c .before .before .narrow4 .ensures) (p .2) (p .3) in (omega arith, omega arith, b .1, b .2)
 
@@ -29,11 +31,13 @@ same-length : tie.Need-same-length
 same-length c = search needs
 
 returns : tie.Need-returns
-returns c = let a = c .before .before .before .before .before .before .before .before .args in
+returns c =
+    let a = c .before .before .before .before .before .before .before .before .args in
     two-stored (a .t) (a .l) _ _ (c .before .before .before .before .before .before .hev-mask .ensures) (c .before .before .before .before .before .narrow4 .ensures) (a .q) (a .st) (a .s .now) _ (c .before .before .before .before .if1 .taken) (c .before .before .store1-8 .ensures)
 
 store2-8-requires : tie.Need-store2-8-requires
-store2-8-requires c κs = let a = c .before .before .before .before .before .args in
+store2-8-requires c κs =
+    let a = c .before .before .before .before .before .args in
     let p = c .before .before .before .before .before .pre in
     let b = narrow-bytes (a .t) (a .l) _ _ (c .before .before .before .hev-mask .ensures) (c .before .before .narrow4 .ensures) (p .2) (p .3) in
     (p .0, p .1, b .0, b .1, b .2, b .3)
@@ -42,7 +46,8 @@ same-length-2 : tie.Need-same-length-2
 same-length-2 c = search needs
 
 returns-2 : tie.Need-returns-2
-returns-2 c = let a = c .before .before .before .before .before .before .before .before .args in
+returns-2 c =
+    let a = c .before .before .before .before .before .before .before .before .args in
     four-stored (a .t) (a .l) _ _ (c .before .before .before .before .before .before .hev-mask .ensures) (c .before .before .before .before .before .narrow4 .ensures) (a .q) (a .st) (a .s .now) _ (c .before .before .before .before .if1 .left) (c .before .before .store2-8 .ensures)
 
 pub narrow-8-spec : {M : Type 1} → statement M

@@ -9,29 +9,35 @@ returns : tie.Need-returns
 returns c = rw (lt-ltb (c .before .before .args .wd) 6 (c .if1 .taken)) (c .before .before .pre .2)
 
 read3-8-requires : tie.Need-read3-8-requires
-read3-8-requires c κs = let a = c .before .before .args in
+read3-8-requires c κs =
+    let a = c .before .before .args in
     let p = c .before .before .pre in
     let r = closer 3 (reads (a .wd)) (a .st) (a .q) _ (three-read (a .wd) (c .if1 .left)) (p .0) (p .1) in (r .0, r .1, p .2)
 
 returns-2 : tie.Need-returns-2
-returns-2 c = let d = c .before .before .before .before .args .wd in rw (le-ltb d 6 (c .before .before .if1 .left), lt-ltb d 8 (c .if2 .taken)) (c .before .read3-8 .ensures)
+returns-2 c =
+    let d = c .before .before .before .before .args .wd in rw (le-ltb d 6 (c .before .before .if1 .left), lt-ltb d 8 (c .if2 .taken)) (c .before .read3-8 .ensures)
 
 read4-8-requires : tie.Need-read4-8-requires
-read4-8-requires c κs = let a = c .before .before .before .before .args in
+read4-8-requires c κs =
+    let a = c .before .before .before .before .args in
     let p = c .before .before .before .before .pre in
     let r = closer 4 (reads (a .wd)) (a .st) (a .q) _ (four-read (a .wd) (c .if2 .left)) (p .0) (p .1) in (r .0, r .1, c .before .read3-8 .ensures)
 
 returns-3 : tie.Need-returns-3
-returns-3 c = let d = c .before .before .before .before .before .before .args .wd in
+returns-3 c =
+    let d = c .before .before .before .before .before .before .args .wd in
     rw (le-ltb d 6 (c .before .before .before .before .if1 .left), le-ltb d 8 (c .before .before .if2 .left), lt-ltb d 16 (c .if3 .taken)) (c .before .read4-8 .ensures)
 
 read7-8-requires : tie.Need-read7-8-requires
-read7-8-requires c κs = let a = c .before .before .before .before .before .before .args in
+read7-8-requires c κs =
+    let a = c .before .before .before .before .before .before .args in
     let p = c .before .before .before .before .before .before .pre in
     let r = closer 7 (reads (a .wd)) (a .st) (a .q) _ (seven-read (a .wd) (c .if3 .left)) (p .0) (p .1) in (r .0, r .1, c .before .read4-8 .ensures)
 
 returns-4 : tie.Need-returns-4
-returns-4 c = let d = c .before .before .before .before .before .before .before .args .wd in
+returns-4 c =
+    let d = c .before .before .before .before .before .before .before .args .wd in
     rw (le-ltb d 6 (c .before .before .before .before .before .if1 .left), le-ltb d 8 (c .before .before .before .if2 .left), le-ltb d 16 (c .before .if3 .left)) (c .read7-8 .ensures)
 
 pub read-8-spec : {M : Type 1} → statement M

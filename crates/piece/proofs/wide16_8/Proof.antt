@@ -10,7 +10,8 @@ wide16-requires : tie.Need-wide16-requires
 wide16-requires c κs = search needs
 
 store6-8-requires : tie.Need-store6-8-requires
-store6-8-requires c κs = let p = c .before .before .before .pre in
+store6-8-requires c κs =
+    let p = c .before .before .before .pre in
     let b = wide-bytes form16 (c .before .before .before .args .l) (p .2) .below in
     rw (c .before .wide16 .ensures) (
       p .0,

@@ -10,7 +10,8 @@ wide6-requires : tie.Need-wide6-requires
 wide6-requires c κs = search needs
 
 store2-8-requires : tie.Need-store2-8-requires
-store2-8-requires c κs = let p = c .before .before .before .pre in
+store2-8-requires c κs =
+    let p = c .before .before .before .pre in
     let b = wide-bytes form6 (c .before .before .before .args .l) (p .2) .below in
     rw (c .before .wide6 .ensures) (
       p .0,

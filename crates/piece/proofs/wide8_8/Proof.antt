@@ -10,7 +10,8 @@ wide8-requires : tie.Need-wide8-requires
 wide8-requires c κs = search needs
 
 store3-8-requires : tie.Need-store3-8-requires
-store3-8-requires c κs = let p = c .before .before .before .pre in
+store3-8-requires c κs =
+    let p = c .before .before .before .pre in
     let b = wide-bytes form8 (c .before .before .before .args .l) (p .2) .below in
     rw (c .before .wide8 .ensures) (
       p .0,

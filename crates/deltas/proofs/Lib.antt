@@ -1,0 +1,4 @@
+pub mod Ints
+pub mod Bias
+pub mod Steps
+pub mod Range

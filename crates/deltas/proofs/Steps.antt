@@ -1,0 +1,93 @@
+-- What the functions compute, in the standard's words: the range test, the clip, and a delta that is added once or twice, each by turning integers into differences of naturals.
+use mathlib.Core.Bool.{true, _||_}
+use mathlib.Core.Logic.{by-cases}
+use mathlib.Core.Path.{_≡_, refl, _∙_, ap, ap₂}
+use Prim.Native.Nat.{ℕ, _+_, _-_, _*_, _/_, _<_, _≤_}
+use native.Mathlib.Decide.{ℕ-discrete}
+use native.Mathlib.Omega.{arith}
+use borrow.Author.Tests.{lt-ltb, le-ltb, eq-eqb, ne-eqb}
+use lib.Dec.{ltb}
+use lib.IntN.{ℤ, pos, negℤ, subℕ, _+ℤ_}
+use lib.Signed.{ltZ}
+use Rattle.standard.specs.Math.{Clip3}
+use Rattle.standard.specs.Level.{baseFilterLevel, lvlSeg, lvlDelta, shl, nShift}
+use Rattle.deltas.specs.Deltas.{on, outside}
+use Rattle.deltas.proofs.Ints.{is-neg, is-pos, sub-eq, pos-sub, neg-sub, add-sub, plus-sub, sub-plus, times-one, times-two, lt-sub}
+
+-- ---- d below -n or above 63, of d = u - 128
+
+pub outside-biased : (u n : ℕ) (d : ℤ) → subℕ u 128 ≡ d → outside n d ≡ (ltb (u + n) 128 || ltb 191 u)
+unfolding outside
+outside-biased u n d e =
+    let p : ltZ (subℕ u 128) (negℤ (pos n)) ≡ ltb (u + n) 128 = rw (neg-sub n) (lt-sub u 128 0 n) in
+    let z : u + 0 ≡ u = omega arith in
+    let q : ltZ (pos 63) (subℕ u 128) ≡ ltb 191 u = rw (pos-sub 63) (lt-sub 63 0 u 128 ∙ ap (ltb 191) z) in
+    rw (← e) (ap₂ _||_ p q)
+
+-- ---- clips to 0..63
+
+pub clip-low : (sum offset : ℕ) → sum < offset → Clip3 (pos 0) (pos 63) (subℕ sum offset) ≡ pos 0
+unfolding Clip3
+clip-low sum offset h = rw (is-neg sum offset (offset - (sum + 1)) (omega arith)) refl
+
+pub clip-high : (sum offset : ℕ) → offset ≤ sum → 63 < sum - offset → Clip3 (pos 0) (pos 63) (subℕ sum offset) ≡ pos 63
+unfolding Clip3
+clip-high sum offset h g =
+    rw (is-pos sum offset (sum - offset) (omega arith), le-ltb (sum - offset) 0 (omega arith), lt-ltb 63 (sum - offset) g) refl
+
+pub clip-mid : (sum offset : ℕ) → offset ≤ sum → sum - offset ≤ 63 → Clip3 (pos 0) (pos 63) (subℕ sum offset) ≡ pos (sum - offset)
+unfolding Clip3
+clip-mid sum offset h g =
+    rw (is-pos sum offset (sum - offset) (omega arith), le-ltb (sum - offset) 0 (omega arith), le-ltb 63 (sum - offset) g) refl
+
+-- ---- a base with its lf and segment delta
+
+pub segment-base-is : (level lf seg v r : ℕ) → pos v ≡ Clip3 (pos 0) (pos 63) (subℕ (level + lf) 128)
+    → pos r ≡ Clip3 (pos 0) (pos 63) (subℕ (v + seg) 128) → pos r ≡ lvlSeg true (subℕ seg 128) (baseFilterLevel level (subℕ lf 128))
+unfolding lvlSeg baseFilterLevel
+segment-base-is level lf seg v r p q = q ∙ rw (sub-plus lf 128 level, ← p, plus-sub v seg 128) refl
+
+-- ---- a delta once below 32, twice from 32 on
+
+shl-sub-0 : (a b n : ℕ) → n ≡ 0 → shl (subℕ a b) n ≡ subℕ a b
+shl-sub-0 a b n e = rw e (times-one a b)
+
+shl-sub-1 : (a b n : ℕ) → n ≡ 1 → shl (subℕ a b) n ≡ subℕ (2 * a) (2 * b)
+shl-sub-1 a b n e = rw e (times-two a b)
+
+pub once : (base sum offset : ℕ) → base < 32 → pos base +ℤ shl (subℕ sum offset) (nShift (pos base)) ≡ subℕ (base + sum) offset
+once base sum offset h = rw (shl-sub-0 sum offset (base / 32) (omega arith)) (plus-sub base sum offset)
+
+pub twice : (base sum offset : ℕ) → 32 ≤ base → base < 64
+    → pos base +ℤ shl (subℕ sum offset) (nShift (pos base)) ≡ subℕ (base + 2 * sum) (2 * offset)
+twice base sum offset h g = rw (shl-sub-1 sum offset (base / 32) (omega arith)) (plus-sub base (2 * sum) (2 * offset))
+
+-- two deltas at once
+shl-add : (a b c d n : ℕ) → n ≤ 1 → shl (subℕ a b) n +ℤ shl (subℕ c d) n ≡ shl (subℕ (a + c) (b + d)) n
+shl-add a b c d n h =
+    by-cases (ℕ-discrete n 0)
+    (λ e. rw (shl-sub-0 a b n e, shl-sub-0 c d n e, shl-sub-0 (a + c) (b + d) n e) (add-sub a b c d))
+    (λ f. let e : n ≡ 1 = omega arith in
+    rw (shl-sub-1 a b n e, shl-sub-1 c d n e, shl-sub-1 (a + c) (b + d) n e)
+    (add-sub (2 * a) (2 * b) (2 * c) (2 * d) ∙ sub-eq (2 * a + 2 * c) (2 * b + 2 * d) (2 * (a + c)) (2 * (b + d)) (omega arith)))
+
+-- ---- the deltas of reference and mode
+
+module _ (enabled : ℕ) (refs modes : ℕ → ℤ) (r m base : ℕ) where
+  pub delta-none : enabled ≡ 0 → pos base ≡ lvlDelta (on enabled) refs modes r m (pos base)
+  unfolding lvlDelta
+  delta-none z = rw (eq-eqb enabled 0 z) refl
+
+  module _ (y : enabled ≡ 0 → ⊥) (u l : ℕ) (eu : subℕ u 128 ≡ refs r) where
+    pub delta-intra : r ≡ 0 → pos l ≡ Clip3 (pos 0) (pos 63) (pos base +ℤ shl (subℕ u 128) (nShift (pos base)))
+        → pos l ≡ lvlDelta (on enabled) refs modes r m (pos base)
+    unfolding lvlDelta
+    delta-intra z p =
+        let e : subℕ u 128 ≡ refs 0 = eu ∙ ap refs z in
+        rw (ne-eqb enabled 0 y, eq-eqb r 0 z, ← e) p
+
+    pub delta-inter : (r ≡ 0 → ⊥) → base < 64 → (v : ℕ) → subℕ v 128 ≡ modes m
+        → pos l ≡ Clip3 (pos 0) (pos 63) (pos base +ℤ shl (subℕ (u + v) 256) (nShift (pos base)))
+        → pos l ≡ lvlDelta (on enabled) refs modes r m (pos base)
+    unfolding lvlDelta
+    delta-inter z h v ev p = rw (ne-eqb enabled 0 y, ne-eqb r 0 z, ← eu, ← ev, shl-add u 128 v 128 (base / 32) (omega arith)) p

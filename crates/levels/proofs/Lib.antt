@@ -1,0 +1,5 @@
+pub mod Fills
+pub mod Sixteen
+pub mod Numbers
+pub mod Values
+pub mod Answers
