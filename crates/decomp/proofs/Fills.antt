@@ -1,0 +1,98 @@
+-- Runs and rectangles of cells: the turns of the loops that fill them, and what each cell is then, by recursion on the count.
+use mathlib.Core.Path.{_≡_, refl, sym, ap, _∙_}
+use mathlib.Core.Logic.{by-cases}
+use mathlib.Core.List.{List}
+use Prim.Native.Nat.{ℕ, zero, suc, _+_, _-_, _*_, _≤_, _<_}
+use native.Mathlib.Decide.{ℕ-discrete, decLt}
+use native.Mathlib.Omega.{arith}
+use lib.ListN.{length, getD, set, length-set}
+use lib.Seq.{getD-set-same, getD-set-other}
+use Rattle.loops.specs.Run.{upTo}
+use Rattle.loops.proofs.Runs.{upTo-again}
+use Rattle.standard.specs.Sizes.{Tx_Wide, Tx_High}
+use Rattle.units.specs.Sizes.{lumaClass}
+use Rattle.units.proofs.Rules.{tx-rule}
+use Rattle.decomp.specs.Cells.{cell, run, fill, put}
+
+-- ---- the loops
+
+pub run-none : (at v : ℕ) (a : List ℕ) → a ≡ run at 0 v a
+unfolding run
+run-none at v a = refl
+
+pub run-step : (at i v : ℕ) (a₀ a : List ℕ) → a ≡ run at i v a₀ → set a (at + i) v ≡ run at (i + 1) v a₀
+unfolding run
+run-step at i v a₀ a e = upTo-again (λ i a. set a (at + i) v) i a₀ e refl
+
+pub fill-none : (at w v : ℕ) (a : List ℕ) → a ≡ fill at w 0 v a
+unfolding fill
+fill-none at w v a = refl
+
+pub fill-step : (at w y v : ℕ) (a₀ a b : List ℕ) → a ≡ fill at w y v a₀ → b ≡ run (at + 32 * y) w v a → b ≡ fill at w (y + 1) v a₀
+unfolding fill
+fill-step at w y v a₀ a b e g = upTo-again (λ y. run (at + 32 * y) w v) y a₀ e g
+
+-- ---- a whole transform, from what the calls ensure
+
+pub put-step : (y0 x0 w h at k l : ℕ) (a b c d e : List ℕ) → at ≡ y0 * 32 + x0 → k ≡ lumaClass w → l ≡ lumaClass h
+    → b ≡ fill at w h k a → c ≡ fill (1024 + at) 1 h w b → d ≡ fill (2048 + at) w h l c → e ≡ fill (3072 + at) w 1 h d → e ≡ put y0 x0 w h a
+unfolding put
+put-step y0 x0 w h at k l a b c d e ea ek el eb ec ed ee =
+    let p₀ : at ≡ cell 0 y0 x0 = omega arith in
+    let p₁ : 1024 + at ≡ cell 1 y0 x0 = omega arith in
+    let p₂ : 2048 + at ≡ cell 2 y0 x0 = omega arith in
+    let p₃ : 3072 + at ≡ cell 3 y0 x0 = omega arith in
+    ee ∙ rw (p₃, ed, p₂, ec, p₁, eb, p₀, ek, el) refl
+
+-- its sides and its place, at the code's own numbers
+pub record Inside (w h y x : ℕ) : Type 0 where
+  pub low : (0 < w) × (0 < h)
+  pub top : (w ≤ 16) × (h ≤ 16)
+  pub rows : y * h + h ≤ 32
+  pub columns : x * w + w ≤ 32
+
+pub inside : (t y x w h : ℕ) → t < 19 → y * Tx_High t + Tx_High t ≤ 32 → x * Tx_Wide t + Tx_Wide t ≤ 32 → w ≡ Tx_Wide t → h ≡ Tx_High t → Inside w h y x
+inside t y x w h b p q ew eh =
+    let r = tx-rule t b in
+    rw (ew, eh) (record { low = (r .wide .low, r .high .low); top = (r .wide .high, r .high .high); rows = p; columns = q })
+
+-- ---- the cells
+
+module _ (at v : ℕ) (a : List ℕ) where
+  pub length-run : (n : ℕ) → length (run at n v a) ≡ length a
+  unfolding run
+  length-run zero = refl
+  length-run (suc n) = length-set (run at n v a) (at + n) v ∙ length-run n
+
+  run-in : (n e : ℕ) → at + n ≤ length a → at ≤ e → e < at + n → getD (run at n v a) e 0 ≡ v
+  unfolding run
+  run-in zero e l p q = absurd (omega arith)
+  run-in (suc n) e l p q =
+      by-cases (ℕ-discrete e (at + n))
+      (λ h. rw h (getD-set-same (run at n v a) (at + n) v 0 (rw (length-run n) (omega arith))))
+      (λ h. getD-set-other (run at n v a) (at + n) e v 0 h ∙ run-in n e (omega arith) p (omega arith))
+
+  run-out : (n e : ℕ) → (at ≤ e → e < at + n → ⊥) → getD (run at n v a) e 0 ≡ getD a e 0
+  unfolding run
+  run-out zero e f = refl
+  run-out (suc n) e f =
+      getD-set-other (run at n v a) (at + n) e v 0 (λ h. f (omega arith) (omega arith)) ∙ run-out n e (λ p q. f p (omega arith))
+
+module _ (at w v : ℕ) (a : List ℕ) where
+  pub length-fill : (h : ℕ) → length (fill at w h v a) ≡ length a
+  unfolding fill
+  length-fill zero = refl
+  length-fill (suc h) = length-run (at + 32 * h) v (fill at w h v a) w ∙ length-fill h
+
+  pub fill-in : (h y e : ℕ) → w ≤ 32 → at + 32 * h + w ≤ length a + 32 → y < h → at + 32 * y ≤ e → e < at + 32 * y + w → getD (fill at w h v a) e 0 ≡ v
+  unfolding fill
+  fill-in zero y e b l k p q = absurd (omega arith)
+  fill-in (suc h) y e b l k p q =
+      by-cases (ℕ-discrete y h)
+      (λ g. run-in (at + 32 * h) v (fill at w h v a) w e (rw (length-fill h) (omega arith)) (omega arith) (omega arith))
+      (λ g. run-out (at + 32 * h) v (fill at w h v a) w e (λ m n. omega arith) ∙ fill-in h y e b (omega arith) (omega arith) p q)
+
+  pub fill-out : (h e : ℕ) → ((y : ℕ) → y < h → at + 32 * y ≤ e → e < at + 32 * y + w → ⊥) → getD (fill at w h v a) e 0 ≡ getD a e 0
+  unfolding fill
+  fill-out zero e f = refl
+  fill-out (suc h) e f = run-out (at + 32 * h) v (fill at w h v a) w e (f h (omega arith)) ∙ fill-out h e (λ y k. f y (omega arith))

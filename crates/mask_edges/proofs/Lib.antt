@@ -1,0 +1,9 @@
+pub mod Words
+pub mod Halves
+pub mod Turns
+pub mod Walks
+pub mod Asks
+pub mod Tiles
+pub mod Tells
+pub mod Edges
+pub mod Theorems

@@ -1,0 +1,145 @@
+-- What the code does, in its own order. `bit u class v` is the bit of the block's edge at (u, v), u counted across the pass, v along it.
+--   edgeBit                 the bit of an edge of luma or chroma; `half` units to a half of a mask
+--   bitIn p                 of the block that the pass p goes over
+--   blockEdge               the block's own edge: the class is the least of a transform's and the context's
+--   stepEdges               inner edges at k steps of one transform's side, each of one class
+--   walk, lineEdges         inner edges along one line, from transform to transform, and along n of them; f bounds the steps
+--   stores n f              the first n places of a context are f
+--   gridPass, cellPass      one pass: over a block of one transform, and over one whose cells tell its transforms
+--   columnsOf, rowsOf       the two passes over a block
+--   gridMasks, cellMasks    both, the contexts a above and l left
+--   Reach step x            x is reached from 0 by one step or more
+--   cellAt pass what u v    the cell of the tables a of transforms that tells the class (what 0) or the step (1) at (u, v); classIn a p, stepIn a p
+--   tables ms t w4 h4       the tables of an inter block, from cells of 0
+--   intraMasks, chromaMasks, interMasks, lastRow, lastColumn     what the recorders leave
+--   Room                    what they ask
+--   Held p len, Told        what the helpers ask: the block lies in the record; the cells hold classes, and steps that go on
+use mathlib.Core.Path.{_≡_}
+use mathlib.Core.Bool.{Bool, true, false, cond}
+use mathlib.Core.List.{List}
+use Prim.Native.Nat.{ℕ, zero, suc, _+_, _-_, _*_, _/_, _%_, _≤_, _<_, min}
+use lib.Dec.{ltb}
+use lib.ListN.{length, getD, set, replicate}
+use Rattle.loops.specs.Run.{upTo}
+use Rattle.bits.specs.Mark.{mark, marks}
+use Rattle.standard.specs.Sizes.{Tx_Wide, Tx_High}
+use Rattle.units.specs.Memory.{lumaWord, chromaWord, halfUnits}
+use Rattle.units.specs.Sizes.{lumaClass, chromaClass}
+use Rattle.decomp.specs.Cells.{cell, block}
+use Rattle.mask_edges.specs.declared.edge.Pass.{Pass}
+
+abbrev pub edgeWord : Bool → ℕ → ℕ → ℕ → ℕ → ℕ
+edgeWord chroma pass unit class half = cond chroma (chromaWord pass unit class half) (lumaWord pass unit class half)
+
+abbrev pub classes : Bool → ℕ
+classes chroma = cond chroma 2 3
+
+unfoldable pub edgeBit : Bool → ℕ → ℕ → ℕ → ℕ → ℕ → ℕ
+edgeBit chroma half pass unit class place = 16 * edgeWord chroma pass unit class (place / half) + place % half
+
+abbrev pub bitIn : Pass → ℕ → ℕ → ℕ → ℕ
+bitIn p u class v = edgeBit (p .chroma) (p .half) (p .pass) (p .unit + u) class (p .place + v)
+
+module _ (bit : ℕ → ℕ → ℕ → ℕ) where
+  unfoldable pub blockEdge : ℕ → (ℕ → ℕ) → (ℕ → ℕ) → List ℕ → List ℕ
+  blockEdge n class context = marks n (λ v. bit 0 (min (class v) (context v)) v)
+
+  unfoldable pub stepEdges : ℕ → ℕ → ℕ → ℕ → List ℕ → List ℕ
+  stepEdges n step class k = upTo (λ i. marks n (bit ((i + 1) * step) class)) k
+
+  unfoldable pub walk : ℕ → (ℕ → ℕ) → (ℕ → ℕ) → ℕ → ℕ → ℕ → ℕ → List ℕ → List ℕ
+  walk across class step v zero x k ms = ms
+  walk across class step v (suc f) x k ms =
+      cond (ltb x across) (walk across class step v f (x + step x) (class x) (mark ms (bit x (min (class x) k) v))) ms
+
+  unfoldable pub lineEdges : ℕ → (ℕ → ℕ → ℕ) → (ℕ → ℕ → ℕ) → ℕ → List ℕ → List ℕ
+  lineEdges across class step n = upTo (λ v. walk across (λ u. class u v) (λ u. step u v) v across (step 0 v) (class 0 v)) n
+
+unfoldable pub stores : ℕ → (ℕ → ℕ) → List ℕ → List ℕ
+stores n f = upTo (λ v c. set c v (f v)) n
+
+module _ (bit : ℕ → ℕ → ℕ → ℕ) (across along : ℕ) where
+  unfoldable pub gridPass : ℕ → ℕ → Bool → (ℕ → ℕ) → List ℕ → List ℕ
+  gridPass step class skip context ms =
+      cond skip (blockEdge bit along (λ _. class) context ms)
+      (stepEdges bit along step class ((across - 1) / step) (blockEdge bit along (λ _. class) context ms))
+
+  unfoldable pub cellPass : (ℕ → ℕ → ℕ) → (ℕ → ℕ → ℕ) → Bool → (ℕ → ℕ) → List ℕ → List ℕ
+  cellPass class step skip context ms =
+      cond skip (blockEdge bit along (class 0) context ms) (lineEdges bit across class step along (blockEdge bit along (class 0) context ms))
+
+abbrev pub passOf : Bool → ℕ → ℕ → ℕ → ℕ → ℕ → ℕ → Pass
+passOf chroma half pass unit place across along =
+    record { chroma = chroma; half = half; pass = pass; unit = unit; place = place; across = across; along = along }
+
+abbrev pub columnsOf : Bool → ℕ → ℕ → ℕ → ℕ → ℕ → Pass
+columnsOf chroma half by4 bx4 w4 h4 = passOf chroma half 0 bx4 by4 w4 h4
+
+abbrev pub rowsOf : Bool → ℕ → ℕ → ℕ → ℕ → ℕ → Pass
+rowsOf chroma half by4 bx4 w4 h4 = passOf chroma half 1 by4 bx4 h4 w4
+
+pub data Reach (step : ℕ → ℕ) : ℕ → Type 0 where
+  first : Reach step (step 0)
+  more : {x : ℕ} → Reach step x → Reach step (x + step x)
+
+unfoldable pub cellAt : ℕ → ℕ → ℕ → ℕ → ℕ
+cellAt zero what u v = cell what v u
+cellAt (suc pass) what u v = cell (2 + what) u v
+
+abbrev pub classIn : List ℕ → Pass → ℕ → ℕ → ℕ
+classIn a p u v = getD a (cellAt (p .pass) 0 u v) 0
+
+abbrev pub stepIn : List ℕ → Pass → ℕ → ℕ → ℕ
+stepIn a p u v = getD a (cellAt (p .pass) 1 u v) 0
+
+unfoldable pub zeros : List ℕ
+zeros = replicate 4096 0
+
+abbrev pub tables : List ℕ → ℕ → ℕ → ℕ → List ℕ
+tables ms t w4 h4 = block ms t w4 h4 zeros
+
+unfoldable pub gridMasks : Pass → Pass → (ℕ → ℕ) → ℕ → Bool → List ℕ → List ℕ → List ℕ → List ℕ
+gridMasks c r class t skip a l ms =
+    gridPass (bitIn r) (r .across) (r .along) (Tx_High t) (class (Tx_High t)) skip (λ x. getD a x 0)
+    (gridPass (bitIn c) (c .across) (c .along) (Tx_Wide t) (class (Tx_Wide t)) skip (λ y. getD l y 0) ms)
+
+unfoldable pub cellMasks : Pass → Pass → List ℕ → Bool → List ℕ → List ℕ → List ℕ → List ℕ
+cellMasks c r txa skip a l ms =
+    cellPass (bitIn r) (r .across) (r .along) (classIn txa r) (stepIn txa r) skip (λ x. getD a x 0)
+    (cellPass (bitIn c) (c .across) (c .along) (classIn txa c) (stepIn txa c) skip (λ y. getD l y 0) ms)
+
+pub record Held (p : Pass) (len : ℕ) : Type 0 where
+  pub pass : p .pass < 2
+  pub half : (0 < p .half) × (p .half ≤ 16)
+  pub unit : p .unit + p .across ≤ 32
+  pub place : p .place + p .along ≤ 2 * p .half
+  pub words : 640 ≤ len
+
+pub record Told (a : List ℕ) (p : Pass) : Type 0 where
+  pub tables : length a ≡ 4096
+  pub class : (u v : ℕ) → u < p .across → v < p .along → classIn a p u v < classes (p .chroma)
+  pub steps : (u v : ℕ) → Reach (λ x. stepIn a p x v) u → u < p .across → v < p .along → 0 < stepIn a p u v
+
+module _ (by4 bx4 w4 h4 : ℕ) where
+  abbrev pub intraMasks : ℕ → List ℕ → List ℕ → List ℕ → List ℕ
+  intraMasks t = gridMasks (columnsOf false 16 by4 bx4 w4 h4) (rowsOf false 16 by4 bx4 w4 h4) lumaClass t false
+
+  abbrev pub chromaMasks : Bool → ℕ → ℕ → ℕ → List ℕ → List ℕ → List ℕ → List ℕ
+  chromaMasks skip t hor ver = gridMasks (columnsOf true (halfUnits ver) by4 bx4 w4 h4) (rowsOf true (halfUnits hor) by4 bx4 w4 h4) chromaClass t skip
+
+  abbrev pub interMasks : Bool → ℕ → List ℕ → List ℕ → List ℕ → List ℕ → List ℕ
+  interMasks skip t ms = cellMasks (columnsOf false 16 by4 bx4 w4 h4) (rowsOf false 16 by4 bx4 w4 h4) (tables ms t w4 h4) skip
+
+abbrev pub lastRow : List ℕ → ℕ → ℕ → ℕ → ℕ → ℕ
+lastRow ms t w4 h4 x = getD (tables ms t w4 h4) (cellAt 1 0 (h4 - 1) x) 0
+
+abbrev pub lastColumn : List ℕ → ℕ → ℕ → ℕ → ℕ → ℕ
+lastColumn ms t w4 h4 y = getD (tables ms t w4 h4) (cellAt 0 0 (w4 - 1) y) 0
+
+-- the place and the size of a block in its record, and the contexts' lengths
+pub record Room (by4 bx4 w4 h4 hor ver words above left : ℕ) : Type 0 where
+  pub wide : (0 < w4) × (bx4 + w4 ≤ 2 * halfUnits hor)
+  pub high : (0 < h4) × (by4 + h4 ≤ 2 * halfUnits ver)
+  pub record-words : 640 ≤ words
+  pub above-units : w4 ≤ above
+  pub left-units : h4 ≤ left

@@ -1,0 +1,84 @@
+// One pass over a block whose transforms the tables of `decomp` tell.
+use super::edge::Pass;
+use super::edge::least;
+use super::edge::set_edge;
+ghost use mathlib.Core.Path.{_≡_};
+ghost use Prim.Native.Nat.{_+_, _-_, _<_, _≤_};
+ghost use lib.ListN.{length, getD};
+ghost use Rattle.mask_edges.specs.Folds.{bitIn, blockEdge, walk, lineEdges, stores, cellPass, cellAt, classIn, stepIn, Held, Told};
+
+const CLASS: usize = 0;
+
+const STEP: usize = 1;
+
+fn cell(txa: &[u8], pass: usize, what: usize, u: usize, v: usize) -> u8
+    requires { ⌜ (length (now txa) ≡ 4096) × (what < 2) × (u < 32) × (v < 32) ⌝ }
+    ensures { λ r. ⌜ r ≡ getD (now (txa .entry)) (cellAt pass what u v) 0 ⌝ }
+{
+    if pass == 0 {
+        let at = (what * 32 + v) * 32 + u;
+        return txa[at];
+    }
+    let at = ((2 + what) * 32 + u) * 32 + v;
+    txa[at]
+}
+
+fn first_edges(masks: &mut [u16], txa: &[u8], p: Pass, ctx: &[u8])
+    requires { ⌜ Held p (length (now masks)) × Told (now txa) p × (0 < p .across) × (p .along ≤ length (now ctx)) ⌝ }
+    ensures { λ _. ⌜ now (masks .exit) ≡ blockEdge (bitIn p) (p .along) (classIn (now (txa .entry)) p 0) (λ v. getD (now (ctx .entry)) v 0) (now (masks .entry)) ⌝ }
+{
+    let n = p.along;
+    for v in 0..n {
+        let class = cell(txa, p.pass, CLASS, 0, v);
+        set_edge(masks, p, 0, least(class, ctx[v]), v);
+    }
+}
+
+// The inner edges of line v: from one transform to the next, by its step.
+fn line_edges(masks: &mut [u16], txa: &[u8], p: Pass, v: usize)
+    requires { ⌜ Held p (length (now masks)) × Told (now txa) p × (0 < p .across) × (v < p .along) ⌝ }
+    ensures { λ _. ⌜ now (masks .exit) ≡ walk (bitIn p) (p .across) (λ u. classIn (now (txa .entry)) p u v) (λ u. stepIn (now (txa .entry)) p u v) v (p .across) (stepIn (now (txa .entry)) p 0 v) (classIn (now (txa .entry)) p 0 v) (now (masks .entry)) ⌝ }
+{
+    let mut ltx = cell(txa, p.pass, CLASS, 0, v);
+    let mut x = cell(txa, p.pass, STEP, 0, v) as usize;
+    while x < p.across {
+        let rtx = cell(txa, p.pass, CLASS, x, v);
+        set_edge(masks, p, x, least(rtx, ltx), v);
+        ltx = rtx;
+        x += cell(txa, p.pass, STEP, x, v) as usize;
+    }
+}
+
+fn inner_edges(masks: &mut [u16], txa: &[u8], p: Pass)
+    requires { ⌜ Held p (length (now masks)) × Told (now txa) p × (0 < p .across) ⌝ }
+    ensures { λ _. ⌜ now (masks .exit) ≡ lineEdges (bitIn p) (p .across) (classIn (now (txa .entry)) p) (stepIn (now (txa .entry)) p) (p .along) (now (masks .entry)) ⌝ }
+{
+    let n = p.along;
+    for v in 0..n {
+        line_edges(masks, txa, p, v);
+    }
+}
+
+fn take_context(ctx: &mut [u8], txa: &[u8], p: Pass)
+    requires { ⌜ Told (now txa) p × (0 < p .across) × (p .across ≤ 32) × (p .along ≤ 32) × (p .along ≤ length (now ctx)) ⌝ }
+    ensures { λ _. ⌜ now (ctx .exit) ≡ stores (p .along) (classIn (now (txa .entry)) p (p .across - 1)) (now (ctx .entry)) ⌝ }
+{
+    let n = p.along;
+    let u = p.across - 1;
+    for v in 0..n {
+        ctx[v] = cell(txa, p.pass, CLASS, u, v);
+    }
+}
+
+pub fn mask_cells(masks: &mut [u16], txa: &[u8], p: Pass, skip: bool, ctx: &mut [u8])
+    requires { ⌜ Held p (length (now masks)) × Told (now txa) p × (0 < p .across) × (p .along ≤ length (now ctx)) ⌝ }
+    ensures masks { λ _. ⌜ now (masks .exit) ≡ cellPass (bitIn p) (p .across) (p .along) (classIn (now (txa .entry)) p) (stepIn (now (txa .entry)) p) skip (λ v. getD (now (ctx .entry)) v 0) (now (masks .entry)) ⌝ }
+    ensures context { λ _. ⌜ now (ctx .exit) ≡ stores (p .along) (classIn (now (txa .entry)) p (p .across - 1)) (now (ctx .entry)) ⌝ }
+{
+    first_edges(masks, txa, p, ctx);
+    take_context(ctx, txa, p);
+    if skip {
+        return;
+    }
+    inner_edges(masks, txa, p);
+}

@@ -1,0 +1,109 @@
+// One pass over a block, and the bits of its edges. Places and sizes are in units of the plane at hand.
+use units::ChromaUnit;
+use units::LumaUnit;
+use units::memory::chroma_word;
+use units::memory::luma_word;
+ghost use mathlib.Core.Path.{_≡_};
+ghost use mathlib.Core.Bool.{true};
+ghost use Prim.Native.Nat.{_+_, _-_, _*_, _/_, _%_, _^_, _<_, _≤_, min};
+ghost use lib.ListN.{length};
+ghost use Rattle.bits.specs.Mark.{mark, marks};
+ghost use Rattle.mask_edges.specs.Folds.{edgeWord, classes, bitIn, columnsOf, rowsOf, Held};
+
+// Pass 0 is columns, 1 rows. `unit` and `across` are the block's place and visible size across the pass, `place` and `along`
+// along it; a half of a mask holds `half` units.
+pub struct Pass {
+    pub chroma: bool,
+    pub half: usize,
+    pub pass: usize,
+    pub unit: usize,
+    pub place: usize,
+    pub across: usize,
+    pub along: usize,
+}
+
+pub fn columns(chroma: bool, half: usize, by4: usize, bx4: usize, w4: usize, h4: usize) -> Pass
+    ensures { λ r. ⌜ r ≡ columnsOf chroma half by4 bx4 w4 h4 ⌝ }
+{
+    Pass {
+        chroma,
+        half,
+        pass: 0,
+        unit: bx4,
+        place: by4,
+        across: w4,
+        along: h4,
+    }
+}
+
+pub fn rows(chroma: bool, half: usize, by4: usize, bx4: usize, w4: usize, h4: usize) -> Pass
+    ensures { λ r. ⌜ r ≡ rowsOf chroma half by4 bx4 w4 h4 ⌝ }
+{
+    Pass {
+        chroma,
+        half,
+        pass: 1,
+        unit: by4,
+        place: bx4,
+        across: h4,
+        along: w4,
+    }
+}
+
+pub fn least(a: u8, b: u8) -> u8
+    ensures { λ r. ⌜ r ≡ min a b ⌝ }
+{
+    if a <= b { a } else { b }
+}
+
+// The word of an edge's lower half.
+fn edge_word(chroma: bool, pass: usize, unit: usize, class: u8) -> usize
+    requires { ⌜ (pass < 2) × (unit < 32) × (class < classes chroma) ⌝ }
+    ensures { λ r. ⌜ (r ≡ edgeWord chroma pass unit class 0) × (r < 639) ⌝ }
+{
+    if chroma {
+        return chroma_word(pass, ChromaUnit(unit), class, 0);
+    }
+    luma_word(pass, LumaUnit(unit), class, 0)
+}
+
+// The block's edge at (u, v).
+pub fn set_edge(masks: &mut [u16], p: Pass, u: usize, class: u8, v: usize)
+    requires { ⌜ Held p (length (now masks)) × (class < classes (p .chroma)) × (u < p .across) × (v < p .along) ⌝ }
+    ensures { λ _. ⌜ now (masks .exit) ≡ mark (now (masks .entry)) (bitIn p u class v) ⌝ }
+{
+    let e = 16 * edge_word(p.chroma, p.pass, p.unit + u, class);
+    let q = p.place + v;
+    if q < p.half {
+        bits::set_bit(masks, e + q);
+        return;
+    }
+    bits::set_bit(masks, e + 16 + (q - p.half));
+}
+
+fn low_half(w: u64, half: u32) -> u16
+    requires { ⌜ half ≤ 16 ⌝ }
+    ensures { λ r. ⌜ r ≡ w % 2 ^ half ⌝ }
+{
+    (w & ((1u64 << half) - 1)) as u16
+}
+
+fn high_half(w: u64, half: u32) -> u16
+    requires { ⌜ (half ≤ 16) × (w < 2 ^ (half + half)) ⌝ }
+    ensures { λ r. ⌜ r ≡ w / 2 ^ half ⌝ }
+{
+    (w >> half) as u16
+}
+
+// The block's edges at u, all along it: two words at once.
+pub fn set_edges(masks: &mut [u16], p: Pass, u: usize, class: u8)
+    requires { ⌜ Held p (length (now masks)) × (class < classes (p .chroma)) × (u < p .across) ⌝ }
+    ensures { λ _. ⌜ now (masks .exit) ≡ marks (p .along) (bitIn p u class) (now (masks .entry)) ⌝ }
+{
+    let at = edge_word(p.chroma, p.pass, p.unit + u, class);
+    let w = bits::run_word(p.place as u32, p.along as u32);
+    let lo = low_half(w, p.half as u32);
+    let hi = high_half(w, p.half as u32);
+    masks[at] = masks[at] | lo;
+    masks[at + 1] = masks[at + 1] | hi;
+}

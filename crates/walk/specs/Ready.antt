@@ -1,0 +1,28 @@
+-- What the walk asks for, at the set places alone.
+--   Ready u size n       at place n the level bytes are there and at most 63, and the samples are in a list of that size
+--   Walkable u size      at every set place; a step along the level bytes is no longer than their list
+--   InRange m u s        the samples read at the set places are below m
+use mathlib.Core.Path.{_≡_}
+use mathlib.Core.Bool.{true}
+use mathlib.Core.List.{List}
+use Prim.Native.Nat.{ℕ, _+_, _-_, _*_, _≤_, _<_}
+use lib.ListN.{length, getD}
+use Rattle.bits.specs.Bit.{hasBit}
+use Rattle.line.specs.Width.{reads}
+use Rattle.piece.specs.Samples.{PieceBelow}
+use Rattle.walk.specs.Walk.{Units, setIn, lenAt, indexAt}
+
+pub record Ready (u : Units) (size n : ℕ) : Type 0 where
+  pub inside : u .at + n * u .along < length (u .levels)
+  pub behind : u .back ≤ u .at + n * u .along
+  pub level : getD (u .levels) (u .at + n * u .along) 0 ≤ 63
+  pub before : getD (u .levels) (u .at + n * u .along - u .back) 0 ≤ 63
+  pub from : reads (lenAt u n) * u .st ≤ indexAt u n
+  pub to : indexAt u n + 3 * u .sa + (reads (lenAt u n) - 1) * u .st < size
+
+pub record Walkable (u : Units) (size : ℕ) : Type 0 where
+  pub step : u .along ≤ length (u .levels)
+  pub ready : (n : ℕ) → hasBit (setIn u) n ≡ true → Ready u size n
+
+pub record InRange (m : ℕ) (u : Units) (s : List ℕ) : Type 0 where
+  pub piece : (n : ℕ) → hasBit (setIn u) n ≡ true → PieceBelow m (reads (lenAt u n)) (u .sa) (u .st) (indexAt u n) s

@@ -1,0 +1,187 @@
+// The walk over the mask bits of one line of units: `loop_filter_sb128_rust` of the Rust. Both passes are this code with other steps:
+// by columns sa is the stride and st 1, along is the levels' stride in bytes and back 4; by rows sa is 1 and st the stride, along 4 and
+// back the levels' stride.
+ghost use mathlib.Core.Path.{_≡_};
+ghost use Prim.Native.Nat.{ℕ, _+_, _-_, _*_, _^_, _<_, _≤_};
+ghost use lib.ListN.{length, getD};
+ghost use Rattle.line.specs.Width.{Width, reads};
+ghost use Rattle.piece.specs.Samples.{PieceBelow};
+ghost use Rattle.walk.specs.Walk.{levelUsed, thresholds, highest, lenOf, units, visit, walked};
+ghost use Rattle.walk.specs.Ready.{Walkable, InRange};
+ghost use Rattle.walk.specs.Promises.{Promises};
+use standard::Bounds;
+
+pub fn level_used(l: u8, before: u8) -> u8
+    ensures { λ r. ⌜ r ≡ levelUsed l before ⌝ }
+{
+    if l != 0 {
+        return l;
+    }
+    before
+}
+
+fn level_at(levels: &[u8], at: usize, back: usize) -> u8
+    requires { ⌜ (at < length (now levels)) × (back ≤ at) ⌝ }
+    ensures { λ r. ⌜ r ≡ levelUsed (getD (now (levels .entry)) at 0) (getD (now (levels .entry)) (at - back) 0) ⌝ }
+{
+    level_used(levels[at], levels[at - back])
+}
+
+// Of the bit xy at place n.
+fn class_of(m1: u32, m2: u32, xy: u32) -> u32
+    ensures { λ r. ⌜ ((n : ℕ) → xy ≡ 2 ^ n → r ≡ highest m1 m2 n) ⌝ }
+{
+    if m2 & xy != 0 {
+        return 2;
+    }
+    if m1 & xy != 0 {
+        return 1;
+    }
+    0
+}
+
+fn width_of(uv: bool, class: u32) -> u32
+    ensures { λ r. ⌜ r ≡ lenOf uv class ⌝ }
+{
+    if class == 0 {
+        return 4;
+    }
+    if uv {
+        return 6;
+    }
+    if class == 1 { 8 } else { 16 }
+}
+
+fn scaled(x: u8, depth: u32) -> u32
+    requires { ⌜ (8 ≤ depth) × (depth ≤ 12) ⌝ }
+    ensures { λ r. ⌜ r ≡ x * 2 ^ (depth - 8) ⌝ }
+{
+    (x as u32) << (depth - 8)
+}
+
+fn thresholds_of(depth: u32, e: &[u8; 64], i: &[u8; 64], l: u8) -> Bounds
+    requires { ⌜ (8 ≤ depth) × (depth ≤ 12) × (l < 64) ⌝ }
+    ensures { λ r. ⌜ r ≡ thresholds depth (now (e .entry)) (now (i .entry)) l ⌝ }
+{
+    let k = l as usize;
+    Bounds {
+        e: scaled(e[k], depth),
+        i: scaled(i[k], depth),
+        h: scaled(l >> 4, depth),
+        f: scaled(1, depth),
+        half: scaled(128, depth),
+    }
+}
+
+fn visit_8(
+    dst: &mut [u8],
+    q: usize,
+    sa: usize,
+    st: usize,
+    wd: u32,
+    l: u8,
+    e: &[u8; 64],
+    i: &[u8; 64],
+)
+    requires { ⌜ Width wd × (l < 64) × (reads wd * st ≤ q) × (q + 3 * sa + (reads wd - 1) * st < length (now dst)) ⌝ }
+    ensures { λ _. ⌜ now (dst .exit) ≡ visit 8 (now (e .entry)) (now (i .entry)) sa st wd l q (now (dst .entry)) ⌝ }
+{
+    if l == 0 {
+        return;
+    }
+    piece::piece_8(dst, q, sa, st, wd, thresholds_of(8, e, i, l));
+}
+
+pub fn walk_8(
+    dst: &mut [u8],
+    q: usize,
+    sa: usize,
+    st: usize,
+    m0: u32,
+    m1: u32,
+    m2: u32,
+    uv: bool,
+    levels: &[u8],
+    at: usize,
+    along: usize,
+    back: usize,
+    e: &[u8; 64],
+    i: &[u8; 64],
+)
+    requires { ⌜ Walkable (units q sa st m0 m1 m2 uv (now levels) at along back) (length (now dst)) ⌝ }
+    ensures { λ _. ⌜ now (dst .exit) ≡ walked 8 (now (e .entry)) (now (i .entry)) (units q sa st m0 m1 m2 uv (now (levels .entry)) at along back) (now (dst .entry)) ⌝ }
+{
+    let vm = m0 | m1 | m2;
+    let mut xy = 1u32;
+    let mut p = q;
+    let mut lvl = at;
+    while vm & !std::num::wrapping_sub_u32(xy, 1) != 0 {
+        if vm & xy != 0 {
+            let wd = width_of(uv, class_of(m1, m2, xy));
+            visit_8(dst, p, sa, st, wd, level_at(levels, lvl, back), e, i);
+        }
+        xy <<= 1; // 0 after bit 31, and the walk stops
+        p += 4 * sa;
+        lvl += along;
+    }
+}
+
+fn visit_16(
+    dst: &mut [u16],
+    q: usize,
+    sa: usize,
+    st: usize,
+    wd: u32,
+    l: u8,
+    e: &[u8; 64],
+    i: &[u8; 64],
+    depth: u32,
+)
+    requires { ⌜ Width wd × (l < 64) × (reads wd * st ≤ q) × (q + 3 * sa + (reads wd - 1) * st < length (now dst)) × (8 ≤ depth) × (depth ≤ 12) × PieceBelow (2 ^ depth) (reads wd) sa st q (now dst) ⌝ }
+    ensures { λ _. ⌜ now (dst .exit) ≡ visit depth (now (e .entry)) (now (i .entry)) sa st wd l q (now (dst .entry)) ⌝ }
+{
+    if l == 0 {
+        return;
+    }
+    piece::piece_16(dst, q, sa, st, wd, thresholds_of(depth, e, i, l));
+}
+
+pub fn walk_16(
+    dst: &mut [u16],
+    q: usize,
+    sa: usize,
+    st: usize,
+    m0: u32,
+    m1: u32,
+    m2: u32,
+    uv: bool,
+    levels: &[u8],
+    at: usize,
+    along: usize,
+    back: usize,
+    e: &[u8; 64],
+    i: &[u8; 64],
+    depth: u32,
+)
+    requires { ⌜ (8 ≤ depth) × (depth ≤ 12) × Walkable (units q sa st m0 m1 m2 uv (now levels) at along back) (length (now dst)) × InRange (2 ^ depth) (units q sa st m0 m1 m2 uv (now levels) at along back) (now dst) ⌝ }
+    ensures { λ _. ⌜ now (dst .exit) ≡ walked depth (now (e .entry)) (now (i .entry)) (units q sa st m0 m1 m2 uv (now (levels .entry)) at along back) (now (dst .entry)) ⌝ }
+{
+    let vm = m0 | m1 | m2;
+    let mut xy = 1u32;
+    let mut p = q;
+    let mut lvl = at;
+    while vm & !std::num::wrapping_sub_u32(xy, 1) != 0 {
+        if vm & xy != 0 {
+            let wd = width_of(uv, class_of(m1, m2, xy));
+            visit_16(dst, p, sa, st, wd, level_at(levels, lvl, back), e, i, depth);
+        }
+        xy <<= 1;
+        p += 4 * sa;
+        lvl += along;
+    }
+}
+
+// The theorems of specs/Promises.antt are proved.
+pub fn promised()
+    ensures { λ _. ⌜ Promises ⌝ }
+{}
