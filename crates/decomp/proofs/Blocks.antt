@@ -2,7 +2,7 @@
 use mathlib.Core.Path.{_≡_, refl, _∙_}
 use mathlib.Core.Logic.{by-cases}
 use mathlib.Core.List.{List}
-use Prim.Native.Nat.{ℕ, _+_, _-_, _*_, _/_, _≤_, _<_}
+use Prim.Native.Nat.{ℕ, _+_, _-_, _*_, _≤_, _<_}
 use native.Mathlib.Decide.{ℕ-discrete, decLt}
 use native.Mathlib.Nat.{le-div-iff-mul-le, mul-le-mul-right, le-mul-of-pos-right, one-mul}
 use native.Mathlib.Omega.{arith}
@@ -10,7 +10,8 @@ use Rattle.loops.specs.Run.{upTo}
 use Rattle.loops.proofs.Runs.{upTo-again}
 use Rattle.standard.specs.Sizes.{Tx_Wide, Tx_High}
 use Rattle.units.proofs.Rules.{tx-rule}
-use Rattle.decomp.specs.Cells.{grid, decomp, masksFrom, counted, block, Place, Covers}
+use Rattle.decomp.specs.Cells.{Covers}
+use Rattle.decomp.specs.Folds.{grid, decomp, masksFrom, counted, block, Place}
 
 -- the y-th transform of those that n units have
 record Line (n side y : ℕ) : Type 0 where

@@ -1,18 +1,18 @@
 -- Runs and rectangles of cells: the turns of the loops that fill them, and what each cell is then, by recursion on the count.
-use mathlib.Core.Path.{_≡_, refl, sym, ap, _∙_}
+use mathlib.Core.Path.{_≡_, refl, _∙_}
 use mathlib.Core.Logic.{by-cases}
 use mathlib.Core.List.{List}
-use Prim.Native.Nat.{ℕ, zero, suc, _+_, _-_, _*_, _≤_, _<_}
-use native.Mathlib.Decide.{ℕ-discrete, decLt}
+use Prim.Native.Nat.{ℕ, zero, suc, _+_, _*_, _≤_, _<_}
+use native.Mathlib.Decide.{ℕ-discrete}
 use native.Mathlib.Omega.{arith}
 use lib.ListN.{length, getD, set, length-set}
 use lib.Seq.{getD-set-same, getD-set-other}
-use Rattle.loops.specs.Run.{upTo}
 use Rattle.loops.proofs.Runs.{upTo-again}
 use Rattle.standard.specs.Sizes.{Tx_Wide, Tx_High}
 use Rattle.units.specs.Sizes.{lumaClass}
 use Rattle.units.proofs.Rules.{tx-rule}
-use Rattle.decomp.specs.Cells.{cell, run, fill, put}
+use Rattle.decomp.specs.Cells.{cell}
+use Rattle.decomp.specs.Folds.{run, fill, put}
 
 -- ---- the loops
 

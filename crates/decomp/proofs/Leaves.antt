@@ -4,9 +4,9 @@ use mathlib.Core.Path.{_≡_, refl, sym, ap, ap₂, _∙_}
 use mathlib.Core.Bool.{Bool, true, false, cond, not, _&&_}
 use mathlib.Core.Logic.{by-cases}
 use mathlib.Core.List.{List, [], _∷_}
-use Prim.Native.Nat.{ℕ, zero, suc, _+_, _-_, _*_, _/_, _%_, _≤_, _<_}
+use Prim.Native.Nat.{ℕ, _+_, _-_, _*_, _/_, _%_, _≤_, _<_}
 use native.Mathlib.Decide.{decLt}
-use native.Mathlib.Nat.{add-mul, one-mul, mod-lt, div-eq-of-lt-le, div-lt-iff-lt-mul, div-div-eq-div-mul, mul-comm, zero-add}
+use native.Mathlib.Nat.{add-mul, one-mul, mod-lt, div-eq-of-lt-le, div-lt-iff-lt-mul, zero-add}
 use native.Mathlib.Omega.{arith}
 use lib.Dec.{eqb, ltb}
 use lib.ListN.{length, getD}
@@ -16,7 +16,8 @@ use Rattle.standard.specs.Sizes.{Tx_Wide, Tx_High, Split_Tx_Size}
 use Rattle.units.specs.Sizes.{TxRule}
 use Rattle.units.proofs.Rules.{tx-rule}
 use Rattle.decomp.specs.Split.{isSplit, leaf, txAt}
-use Rattle.decomp.specs.Cells.{cell, value, wideIn, highIn, whole, grid, splits, decomp, masksFrom, counted, block, Place, Covers, Cells}
+use Rattle.decomp.specs.Cells.{cell, Covers, Cells}
+use Rattle.decomp.specs.Folds.{value, wideIn, highIn, whole, grid, splits, decomp, masksFrom, counted, block, Place}
 use Rattle.decomp.proofs.Splits.{not-least, rows, columns, part}
 use Rattle.decomp.proofs.Blocks.{place}
 use Rattle.decomp.proofs.Paints.{In, Paints, paint-on, paints-grid, paints-same, paints-whole}
@@ -84,7 +85,8 @@ paints-decomp (m ∷ ms) t d y x b p =
     told s e v u i = sym (ap (λ (c : Bool). cond c (leaf ms (Split_Tx_Size t) u v) t) (split-at m t y x v u i ∙ e))
 
     go : (s : Bool) → splits m t y x ≡ s
-        → (0 < t → Paints R (leaf ms (Split_Tx_Size t)) (grid (cond (ltb (Tx_Wide t) (Tx_High t)) 1 2) (cond (ltb (Tx_High t) (Tx_Wide t)) 1 2) (λ i j. decomp ms (Split_Tx_Size t) (y * 2 + i) (x * 2 + j))))
+        → (0 < t → Paints R (leaf ms (Split_Tx_Size t)) (grid (cond (ltb (Tx_Wide t) (Tx_High t)) 1 2) (cond (ltb (Tx_High t) (Tx_Wide t)) 1 2)
+        (λ i j. decomp ms (Split_Tx_Size t) (y * 2 + i) (x * 2 + j))))
         → Paints R (leaf (m ∷ ms) t) (decomp (m ∷ ms) t y x)
     go false e k = rw e (paints-same R (λ _ _. t) (leaf (m ∷ ms) t) (whole t y x) (told false e) (paints-whole t y x (p .code) (p .high) (p .wide)))
     go true e k = rw e (paints-same R (leaf ms (Split_Tx_Size t)) (leaf (m ∷ ms) t) _ (told true e) (k (not-least m t y x e)))

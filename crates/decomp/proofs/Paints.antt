@@ -2,10 +2,10 @@
 use mathlib.Core.Path.{_≡_, refl, sym, ap, _∙_}
 use mathlib.Core.Bool.{Bool, true, false, cond, _&&_, and-false}
 use mathlib.Core.Logic.{_⊎_, inl, inr, ⊎-elim, by-cases}
-use mathlib.Core.List.{List, [], _∷_}
-use Prim.Native.Nat.{ℕ, zero, suc, _+_, _-_, _*_, _/_, _%_, _≤_, _<_}
+use mathlib.Core.List.{List}
+use Prim.Native.Nat.{ℕ, zero, suc, _+_, _-_, _*_, _%_, _≤_, _<_}
 use native.Mathlib.Decide.{ℕ-discrete, decLt}
-use native.Mathlib.Nat.{suc-mul, mul-add-mod-self-right, mod-eq-of-lt, mod-lt}
+use native.Mathlib.Nat.{suc-mul, mul-add-mod-self-right, mod-eq-of-lt}
 use native.Mathlib.Omega.{arith}
 use lib.Dec.{eqb, ltb}
 use lib.ListN.{length, getD}
@@ -14,7 +14,8 @@ use Rattle.loops.specs.Run.{upTo}
 use Rattle.loops.proofs.Lists.{row-in}
 use Rattle.standard.specs.Sizes.{Tx_Wide, Tx_High}
 use Rattle.units.proofs.Rules.{tx-rule}
-use Rattle.decomp.specs.Cells.{cell, value, wideIn, highIn, fill, put, whole, grid}
+use Rattle.decomp.specs.Cells.{cell}
+use Rattle.decomp.specs.Folds.{value, wideIn, highIn, fill, put, whole, grid}
 use Rattle.decomp.proofs.Fills.{length-fill, fill-in, fill-out}
 
 -- ---- areas
@@ -140,7 +141,8 @@ module _ (y0 x0 w h : ℕ) (lw : 0 < w) (lh : 0 < h) (hx : x0 + w ≤ 32) (hy : 
         (λ k lk u v. let e : q ≡ p = omega arith in f e (rw (← e) (omega arith)))
 
     -- once its own turn is past, the table's cell is the transform's
-    ones-in : (n : ℕ) (a : List ℕ) → length a ≡ 4096 → p < n → In y0 x0 (highIn p h) (wideIn p w) y x → getD (upTo (one y0 x0 w h) n a) (cell p y x) 0 ≡ value p w h
+    ones-in : (n : ℕ) (a : List ℕ) → length a ≡ 4096 → p < n → In y0 x0 (highIn p h) (wideIn p w) y x
+        → getD (upTo (one y0 x0 w h) n a) (cell p y x) 0 ≡ value p w h
     ones-in zero a l g r = absurd (omega arith)
     ones-in (suc n) a l g r =
         by-cases (ℕ-discrete p n)

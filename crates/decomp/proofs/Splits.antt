@@ -1,20 +1,19 @@
 -- A split in the code's own terms: whether there is one, where its parts stand, and what their calls make of the tables. By the rules of the sizes.
 use mathlib.Core.Path.{_≡_, refl, sym, ap, _∙_}
-use mathlib.Core.Bool.{Bool, true, false, cond, not, _&&_, Bool·not-not, false≢true}
+use mathlib.Core.Bool.{Bool, true, false, cond, not, Bool·not-not, false≢true}
 use mathlib.Core.Logic.{by-cases}
 use mathlib.Core.List.{List, [], _∷_}
-use Prim.Native.Nat.{ℕ, zero, suc, _+_, _-_, _*_, _≤_, _<_}
+use Prim.Native.Nat.{ℕ, zero, suc, _+_, _*_, _≤_, _<_}
 use native.Mathlib.Decide.{ℕ-discrete, decLe}
 use native.Mathlib.Nat.{add-mul, mul-assoc, one-mul, le-mul-of-pos-right, mul-le-mul-right}
 use native.Mathlib.Omega.{arith}
-use lib.Dec.{eqb, ltb}
+use lib.Dec.{ltb}
 use lib.ListN.{getD}
 use borrow.Author.Tests.{ne-eqb, lt-ltb, le-ltb}
-use Rattle.loops.specs.Run.{upTo}
 use Rattle.bits.specs.Bit.{hasBit}
 use Rattle.standard.specs.Sizes.{Tx_Wide, Tx_High, Split_Tx_Size}
 use Rattle.units.proofs.Rules.{tx-rule}
-use Rattle.decomp.specs.Cells.{whole, grid, splits, splitsBy, decomp, masksFrom, Place}
+use Rattle.decomp.specs.Folds.{whole, grid, splits, splitsBy, decomp, masksFrom, Place}
 
 -- ---- whether it is split
 
@@ -146,7 +145,8 @@ parts l t d y x s w h p e es ew eh =
       calls = λ a. rw (k .next, k .by-mask) refl;
     })
 
-module _ {l : List ℕ} {t d y x s w h : ℕ} (k : Parts l t d y x s w h) (a b₀ : List ℕ) (e₀ : b₀ ≡ decomp (masksFrom (d + 1) l) s (y * 2 + 0) (x * 2 + 0) a) where
+module _ {l : List ℕ} {t d y x s w h : ℕ} (k : Parts l t d y x s w h) (a b₀ : List ℕ)
+    (e₀ : b₀ ≡ decomp (masksFrom (d + 1) l) s (y * 2 + 0) (x * 2 + 0) a) where
   pub four : (b₁ b₂ b₃ : List ℕ) → h ≡ w → b₁ ≡ decomp (masksFrom (d + 1) l) s (y * 2 + 0) (x * 2 + 1) b₀
       → b₂ ≡ decomp (masksFrom (d + 1) l) s (y * 2 + 1) (x * 2 + 0) b₁ → b₃ ≡ decomp (masksFrom (d + 1) l) s (y * 2 + 1) (x * 2 + 1) b₂
       → b₃ ≡ decomp (masksFrom d l) t y x a

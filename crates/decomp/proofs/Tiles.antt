@@ -23,7 +23,8 @@ module _ (x y x′ y′ : ℕ) where
 coarser : (own other s x x′ : ℕ) → (other ≤ own → 2 * s ≡ own) → (own < other → s ≡ own) → x / s ≡ x′ / s → x / own ≡ x′ / own
 coarser own other s x x′ two one e =
     by-cases (decLe other own)
-    (λ q. let f = sym (mul-comm s 2 ∙ two q) in ap (λ (k : ℕ). x / k) f ∙ sym (div-div-eq-div-mul x s 2) ∙ ap (λ (k : ℕ). k / 2) e ∙ div-div-eq-div-mul x′ s 2 ∙ ap (λ (k : ℕ). x′ / k) (sym f))
+    (λ q. let f = sym (mul-comm s 2 ∙ two q) in ap (λ (k : ℕ). x / k) f ∙ sym (div-div-eq-div-mul x s 2) ∙ ap (λ (k : ℕ). k / 2) e ∙ div-div-eq-div-mul x′ s 2
+    ∙ ap (λ (k : ℕ). x′ / k) (sym f))
     (λ q. rw (one (omega arith)) at e)
 
 module _ (x y x′ y′ : ℕ) where

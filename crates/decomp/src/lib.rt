@@ -10,7 +10,9 @@ ghost use Prim.Native.Nat.{ℕ, _+_, _*_, _<_, _≤_};
 ghost use lib.ListN.{length};
 ghost use Rattle.loops.specs.Run.{upTo};
 ghost use Rattle.standard.specs.Sizes.{Tx_Wide, Tx_High};
-ghost use Rattle.decomp.specs.Cells.{run, fill, put, whole, splitsBy, masksFrom, decomp, counted, block, Place, Covers};
+ghost use Rattle.decomp.specs.Cells.{Covers};
+ghost use Rattle.decomp.specs.Promises.{Promises};
+ghost use Rattle.decomp.specs.Folds.{run, fill, put, whole, splitsBy, masksFrom, decomp, counted, block, Place};
 
 fn fill_run(txa: &mut [u8], at: usize, n: usize, v: u8)
     requires { ⌜ at + n ≤ length (now txa) ⌝ }
@@ -132,3 +134,8 @@ pub fn decomp_block(txa: &mut [u8], max_tx: usize, w4: LumaUnit, h4: LumaUnit, t
         decomp_row(txa, max_tx, y_off, columns, tx_masks);
     }
 }
+
+// The tables tell the transforms. The function does nothing: its contract puts the theorems where a reader sees them.
+pub fn promised()
+    ensures { λ _. ⌜ Promises ⌝ }
+{}

@@ -1,104 +1,23 @@
--- A filtered line is the output of its choice, by cases on the tests; and each output changes, keeps in range and looks at only what it
--- may, by cases on whether a place is within reach.
-use mathlib.Core.Path.{_≡_, refl, _∙_, sym, ap, ap₂}
-use mathlib.Core.Logic.{_≢_}
-use mathlib.Core.Bool.{Bool, true, false, cond, not, _&&_, _||_}
-use mathlib.Core.List.{List, [], _∷_}
+-- Each output changes, keeps in range and looks at only what it may: by cases on whether a place is within reach of the filter.
+use mathlib.Core.Path.{_≡_, refl, _∙_}
+use mathlib.Core.Logic.{_⊎_, inl, inr}
+use mathlib.Core.Bool.{Bool, true, false, cond, _&&_}
+use mathlib.Core.List.{[], _∷_}
 use Prim.Native.Nat.{ℕ, zero, suc, _+_, _-_, _*_, _≤_, _<_}
 use native.Mathlib.Omega.{arith}
 use borrow.Author.Tests.{leb-true, leb-false, ltb-true, ltb-false}
-use lib.Dec.{T, leb, ltb, eqb, lit≤}
+use lib.Dec.{T, leb, ltb, lit≤}
 use lib.IntN.{ℤ}
 use lib.ListN.{getD}
 use Rattle.standard.specs.Masks.{hevMask, filterMask, flatMask, flatMask2}
 use Rattle.standard.specs.Narrow.{moved, baseFilter, narrowed, narrow}
 use Rattle.standard.specs.Wide.{wide, wideAt}
-use Rattle.standard.specs.Line.{wideN, wideN2, changed, filtered}
 use Rattle.standard.specs.declared.Bounds.{Bounds}
-use Rattle.line.specs.Choice.{choice, output}
-use Rattle.line.specs.Width.{Width, four, six, eight, sixteen, Wide, wide6, wide8, wide8-of-16, wide16, Within, Same, Below, reads, writes}
+use Rattle.line.specs.Choice.{choice}
+use Rattle.line.specs.Width.{Width, four, six, eight, sixteen, Within, Same, Under, reads}
 use Rattle.line.proofs.Narrow.{moved-below}
+use Rattle.line.proofs.Choices.{output, Wide, wide6, wide8, wide8-of-16, wide16, either, each, wide-of, sizes, wide-sizes}
 use Rattle.line.proofs.Sums.{Form, form6, form8, form16, between, wide-same}
-
--- ---- a filtered line is the output of its choice
-module _ (t : Bounds) (x : ℕ → ℕ) (k : ℕ) where
-  by-tests : (f m n : Bool) (a b u v : ℕ) → output a t x k ≡ u → output b t x k ≡ v
-      → cond f (cond m (narrow (t .half) (hevMask t x) x k) (cond n u v)) (x k) ≡ output (cond (not f) 0 (cond m 1 (cond n a b))) t x k
-  unfolding output
-  by-tests false m n a b u v ea eb = refl
-  by-tests true true n a b u v ea eb = refl
-  by-tests true false true a b u v ea eb = sym ea
-  by-tests true false false a b u v ea eb = sym eb
-
-  pub by-choice : (len : ℕ) → filtered len t x k ≡ output (choice len t x) t x k
-  unfolding filtered changed choice output
-  by-choice len =
-      by-tests (filterMask len t x) (eqb len 4 || not (flatMask len t x)) (not (eqb len 16) || not (flatMask2 t x))
-      (wideN len 3) (wideN len 4) _ _ (inner (eqb len 6)) refl
-    where
-      inner : (b : Bool) → output (cond b 2 3) t x k ≡ wide (cond b 2 3) (cond (not b) 0 1) 3 x k
-      inner true = refl
-      inner false = refl
-
--- ---- a choice is none, the narrow filter, or a wide one of the width
-either : (P : ℕ → Type 0) (b : Bool) (u v : ℕ) → P u → P v → P (cond b u v)
-either P true u v p q = p
-either P false u v p q = q
-
-pub each : {len : ℕ} → Width len → (t : Bounds) (x : ℕ → ℕ) (P : ℕ → Type 0) → P 0 → P 1 → ((n : ℕ) → Wide len n → P n) → P (choice len t x)
-unfolding choice
-each four t x P p q r = either P (not (filterMask 4 t x)) 0 1 p q
-each six t x P p q r = either P (not (filterMask 6 t x)) 0 _ p (either P (not (flatMask 6 t x)) 1 2 q (r 2 wide6))
-each eight t x P p q r = either P (not (filterMask 8 t x)) 0 _ p (either P (not (flatMask 8 t x)) 1 3 q (r 3 wide8))
-each sixteen t x P p q r =
-    either P (not (filterMask 16 t x)) 0 _ p
-    (either P (not (flatMask 16 t x)) 1 _ q (either P (not (flatMask2 t x)) 3 6 (r 3 wide8-of-16) (r 6 wide16)))
-
-pub wide-of : {len : ℕ} → Width len → (t : Bounds) (x : ℕ → ℕ) → 2 ≤ choice len t x → Wide len (choice len t x)
-wide-of {len} w t x = each w t x (λ n. 2 ≤ n → Wide len n) (λ h. absurd (omega arith)) (λ h. absurd (omega arith)) (λ n f h. f)
-
-pub last-wide : {len n : ℕ} → Wide len n → n ≢ 2 → n ≢ 3 → n ≡ 6
-last-wide wide6 a b = absurd (a refl)
-last-wide wide8 a b = absurd (b refl)
-last-wide wide8-of-16 a b = absurd (b refl)
-last-wide wide16 a b = refl
-
--- ---- what a width and its wide filters read and change
-pub two-written : {len : ℕ} → Width len → 2 ≤ writes len
-two-written four = omega arith
-two-written six = omega arith
-two-written eight = omega arith
-two-written sixteen = omega arith
-
-pub reads-few : {len : ℕ} → Width len → reads len ≤ 7
-reads-few four = omega arith
-reads-few six = omega arith
-reads-few eight = omega arith
-reads-few sixteen = omega arith
-
-pub writes-reads : {len : ℕ} → Width len → writes len ≤ reads len
-writes-reads four = omega arith
-writes-reads six = omega arith
-writes-reads eight = omega arith
-writes-reads sixteen = omega arith
-
-pub wide-writes : {len n : ℕ} → Wide len n → n ≤ writes len
-wide-writes wide6 = omega arith
-wide-writes wide8 = omega arith
-wide-writes wide8-of-16 = omega arith
-wide-writes wide16 = omega arith
-
-pub two-read : {len : ℕ} → Width len → 2 ≤ reads len
-two-read four = omega arith
-two-read six = omega arith
-two-read eight = omega arith
-two-read sixteen = omega arith
-
-pub wide-reads : {len n : ℕ} → Wide len n → n + 1 ≤ reads len
-wide-reads wide6 = omega arith
-wide-reads wide8 = omega arith
-wide-reads wide8-of-16 = omega arith
-wide-reads wide16 = omega arith
 
 -- the wide filter that changes n samples a side
 record Shape (n : ℕ) : Type 0 where
@@ -127,35 +46,61 @@ reached n k u v P p q = go (leb (8 - n) k) refl (ltb k (8 + n)) refl
 pub fewer : {m n k : ℕ} → m ≤ n → Within m k → Within n k
 fewer h w = record { from = omega (arith, w .from); to = omega (arith, w .to) }
 
+pub two-read : {len : ℕ} → Width len → 2 ≤ reads len
+two-read w = let s = sizes w in omega arith
+
+pub more-read : {len n : ℕ} → Wide len n → n + 1 ≤ reads len
+more-read f = let s = wide-sizes f in omega arith
+
 -- a place that is within reach by computation
 pub lit : {n k : ℕ} → T (leb 8 (k + n)) → T (leb (suc k) (8 + n)) → Within n k
 lit a b = record { from = lit≤ a; to = lit≤ b }
 
--- ---- an output changes only what is within reach
-module _ {len : ℕ} (t : Bounds) (x : ℕ → ℕ) (k : ℕ) (h : ¬ Within (writes len) k) where
-  pub narrow-kept : Width len → output 1 t x k ≡ x k
-  unfolding output narrow
-  narrow-kept w = reached 2 k _ (x k) (λ v. v ≡ x k) (λ i. absurd (h (fewer (two-written w) i))) (λ _. refl)
+-- p1 and q1 are the places of two a side that are not of one
+second : (k : ℕ) → Within 2 k → ¬ Within 1 k → (k ≡ 6) ⊎ (k ≡ 9)
+second k w h = go (ltb k 7) refl (ltb k 9) refl
+  where
+    go : (a : Bool) → ltb k 7 ≡ a → (b : Bool) → ltb k 9 ≡ b → (k ≡ 6) ⊎ (k ≡ 9)
+    go true e b f = let l = ltb-true k 7 e in inl (omega (arith, w .from))
+    go false e true f =
+        let l = ltb-false k 7 e in let m = ltb-true k 9 f in absurd (h (record { from = omega arith; to = omega arith }))
+    go false e false f = let m = ltb-false k 9 f in inr (omega (arith, w .to))
 
-  pub wide-kept : {n : ℕ} → Wide len n → output n t x k ≡ x k
+-- ---- an output changes only what is within reach
+module _ (t : Bounds) (x : ℕ → ℕ) (k : ℕ) where
+  -- with high edge variance p1 and q1 stay
+  pub narrow-kept : ¬ Within (cond (hevMask t x) 1 2) k → output 1 t x k ≡ x k
+  unfolding output narrow narrowed
+  narrow-kept = go (hevMask t x)
+    where
+      far : (half : ℕ) → (k ≡ 6) ⊎ (k ≡ 9) → getD (narrowed half true x (baseFilter half true x)) (k - 6) 0 ≡ x k
+      far half (inl e) = rw e
+      far half (inr e) = rw e
+
+      go : (v : Bool) → ¬ Within (cond v 1 2) k → narrow (t .half) v x k ≡ x k
+      go true h = reached 2 k _ (x k) (λ v. v ≡ x k) (λ w. far (t .half) (second k w h)) (λ _. refl)
+      go false h = reached 2 k _ (x k) (λ v. v ≡ x k) (λ i. absurd (h i)) (λ _. refl)
+
+  pub wide-kept : {len n : ℕ} → Wide len n → ¬ Within n k → output n t x k ≡ x k
   unfolding wide
-  wide-kept {n} f =
-      shape f .is t x k ∙ reached n k _ (x k) (λ v. v ≡ x k) (λ i. absurd (h (fewer (wide-writes f) i))) (λ _. refl)
+  wide-kept {len} {n} f h = shape f .is t x k ∙ reached n k _ (x k) (λ v. v ≡ x k) (λ i. absurd (h i)) (λ _. refl)
 
 -- ---- an output stays in range
-pub wide-between : {len n : ℕ} → Wide len n → (t : Bounds) (x : ℕ → ℕ) (lo hi : ℕ) → ((k : ℕ) → Within (n + 1) k → (lo ≤ x k) × (x k ≤ hi))
-    → (k : ℕ) → Within n k → (lo ≤ output n t x k) × (output n t x k ≤ hi)
+pub output-between : {len : ℕ} → Width len → (t : Bounds) (x : ℕ → ℕ) → 2 ≤ choice len t x → (lo hi : ℕ)
+    → ((k : ℕ) → Within (choice len t x + 1) k → (lo ≤ x k) × (x k ≤ hi))
+    → (k : ℕ) → Within (choice len t x) k → (lo ≤ output (choice len t x) t x k) × (output (choice len t x) t x k ≤ hi)
 unfolding wide
-wide-between {len} {n} f t x lo hi h k i =
-    rw (shape f .is t x k)
-    (reached n k (wideAt n (shape f .n2) (shape f .log) x k) (x k) (λ v. (lo ≤ v) × (v ≤ hi))
-    (λ _. between (shape f .form) x k lo hi h) (λ j. absurd (j i)))
+output-between {len} w t x g lo hi h k i =
+    let s = shape (wide-of w t x g) in
+    rw (s .is t x k)
+    (reached (choice len t x) k (wideAt (choice len t x) (s .n2) (s .log) x k) (x k) (λ v. (lo ≤ v) × (v ≤ hi))
+    (λ _. between (s .form) x k lo hi h) (λ j. absurd (j i)))
 
-pub wide-in : {n n2 g : ℕ} → Form n n2 g → (m : ℕ) (x : ℕ → ℕ) → Below m (n + 1) x → (k : ℕ) → x k < m → wide n n2 g x k < m
+pub wide-in : {n n2 g : ℕ} → Form n n2 g → (m : ℕ) (x : ℕ → ℕ) → Under m (n + 1) x → (k : ℕ) → x k < m → wide n n2 g x k < m
 unfolding wide
 wide-in {n} {n2} {g} f m x h k i =
     reached n k (wideAt n n2 g x k) (x k) (λ v. v < m)
-    (λ _. let b = between f x k 0 (m - 1) (λ j v. (omega arith, omega (arith, h .below j v))) .1 in omega arith)
+    (λ _. let b = between f x k 0 (m - 1) (λ j v. (omega arith, omega (arith, h .under j v))) .1 in omega arith)
     (λ _. i)
 
 four-below : (m a b c d i : ℕ) → a < m → b < m → c < m → d < m → getD (a ∷ b ∷ c ∷ d ∷ []) i 0 < m
@@ -165,24 +110,24 @@ four-below m a b c d (suc (suc zero)) ha hb hc hd = hc
 four-below m a b c d (suc (suc (suc zero))) ha hb hc hd = hd
 four-below m a b c d (suc (suc (suc (suc i)))) ha hb hc hd = omega arith
 
-module _ {len : ℕ} (w : Width len) (t : Bounds) (p : 0 < t .half) (x : ℕ → ℕ) (h : Below (2 * t .half) (reads len) x)
+module _ {len : ℕ} (w : Width len) (t : Bounds) (p : 0 < t .half) (x : ℕ → ℕ) (h : Under (2 * t .half) (reads len) x)
     (k : ℕ) (i : Within (reads len) k) where
   pub narrow-below : output 1 t x k < 2 * t .half
   unfolding output narrow narrowed
   narrow-below =
       let m : (s : ℕ) (d : ℤ) → moved (t .half) s d < 2 * t .half = λ s d. moved-below (t .half) s d p in
-      let r : (j : ℕ) → Within 2 j → x j < 2 * t .half = λ j v. h .below j (fewer (two-read w) v) in
+      let r : (j : ℕ) → Within 2 j → x j < 2 * t .half = λ j v. h .under j (fewer (two-read w) v) in
       let keep = either (λ v. v < 2 * t .half) (hevMask t x) in
       reached 2 k _ (x k) (λ v. v < 2 * t .half)
       (λ _. four-below (2 * t .half) _ _ _ _ (k - 6) (keep (x 6) _ (r 6 (lit tt tt)) (m _ _)) (m _ _) (m _ _) (keep (x 9) _ (r 9 (lit tt tt)) (m _ _)))
-      (λ _. h .below k i)
+      (λ _. h .under k i)
 
   wide-below : {n : ℕ} → Wide len n → output n t x k < 2 * t .half
-  wide-below f = rw (shape f .is t x k) (wide-in (shape f .form) (2 * t .half) x (record { below = λ j v. h .below j (fewer (wide-reads f) v) }) k (h .below k i))
+  wide-below f = rw (shape f .is t x k) (wide-in (shape f .form) (2 * t .half) x (record { under = λ j v. h .under j (fewer (more-read f) v) }) k (h .under k i))
 
   pub output-below : output (choice len t x) t x k < 2 * t .half
   unfolding output
-  output-below = each w t x (λ n. output n t x k < 2 * t .half) (h .below k i) narrow-below (λ n f. wide-below f)
+  output-below = each w t x (λ n. output n t x k < 2 * t .half) (h .under k i) narrow-below (λ n f. wide-below f)
 
 -- ---- an output looks at no sample out of reach
 at : {n : ℕ} {x y : ℕ → ℕ} → Same n x y → (k : ℕ) → T (leb 8 (k + n)) → T (leb (suc k) (8 + n)) → x k ≡ y k
@@ -204,7 +149,7 @@ module _ {len : ℕ} (w : Width len) (t : Bounds) (x y : ℕ → ℕ) (s : Same 
   wide-agree : {n : ℕ} → Wide len n → output n t x k ≡ output n t y k
   unfolding wide
   wide-agree {n} f =
-      let r : Same (n + 1) x y = record { same = λ k i. s .same k (fewer (wide-reads f) i) } in
+      let r : Same (n + 1) x y = record { same = λ k i. s .same k (fewer (more-read f) i) } in
       rw (shape f .is t x k, shape f .is t y k, wide-same n (shape f .n2) (shape f .log) x y r k, s .same k i)
 
   pub output-agree : output (choice len t x) t x k ≡ output (choice len t x) t y k

@@ -1,20 +1,17 @@
 -- A rule stores no more samples than its width may change, and looks at no sample out of reach: by what holds of its choice.
 use mathlib.Core.Path.{_≡_, refl, _∙_, ap, ap₂}
-use mathlib.Core.Bool.{Bool, true, false, cond}
-use mathlib.Core.List.{List, [], _∷_}
+use mathlib.Core.List.{List, _∷_}
 use Prim.Native.Nat.{ℕ, zero, suc, _+_, _-_, _*_, _≤_, _<_}
 use native.Mathlib.Omega.{arith}
-use lib.Dec.{eqb}
 use lib.ListN.{length}
-use Rattle.standard.specs.Masks.{hevMask}
 use Rattle.standard.specs.Line.{filtered}
 use Rattle.standard.specs.declared.Bounds.{Bounds}
 use Rattle.plane.specs.Line.{Change, Gives}
-use Rattle.line.specs.Choice.{choice}
-use Rattle.line.specs.Width.{Width, Wide, Within, Same, reads, writes}
+use Rattle.line.specs.Width.{Width, Same, reads, writes}
 use Rattle.line.specs.Rule.{side, span, change, rule}
-use Rattle.line.proofs.Outputs.{each, two-written, reads-few, writes-reads, wide-writes, hev-agree, choice-agree}
-use Rattle.line.proofs.Laws.{local}
+use Rattle.line.proofs.Choices.{sizes}
+use Rattle.line.proofs.Outputs.{hev-agree, choice-agree}
+use Rattle.line.proofs.Laws.{side-few, local}
 
 length-span : (f : ℕ → ℕ) (k n : ℕ) → length (span f k n) ≡ n
 length-span f k zero = refl
@@ -28,22 +25,9 @@ abbrev made : ℕ → List ℕ → Change
 made n vs = record { side = n; samples = vs }
 
 module _ {len : ℕ} (w : Width len) (t : Bounds) where
-  pub side-few : (x : ℕ → ℕ) → side len t x ≤ writes len
-  unfolding side
-  side-few x =
-      each w t x (λ n. cond (eqb n 1) (cond (hevMask t x) 1 2) n ≤ writes len) (omega arith) (narrow (hevMask t x)) (λ n f. wide n (eqb n 1) f)
-    where
-      narrow : (b : Bool) → cond b 1 2 ≤ writes len
-      narrow true = omega (arith, two-written w)
-      narrow false = two-written w
-
-      wide : (n : ℕ) (b : Bool) → Wide len n → cond b (cond (hevMask t x) 1 2) n ≤ writes len
-      wide n true f = narrow (hevMask t x)
-      wide n false f = wide-writes f
-
   pub gives : (l : List ℕ) → Gives (writes len) (rule len t .rule l)
   unfolding change
-  gives l = record { even = length-span _ _ _; few = side-few _ }
+  gives l = record { even = length-span _ _ _; few = side-few w t _ }
 
   side-agree : (x y : ℕ → ℕ) → Same (reads len) x y → side len t x ≡ side len t y
   unfolding side
@@ -53,9 +37,8 @@ module _ {len : ℕ} (w : Width len) (t : Bounds) where
   unfolding change
   change-agree x y s =
       let n = side len t x in
-      let few = side-few x in
-      let more = writes-reads w in
-      let seven = reads-few w in
+      let few = side-few w t x in
+      let z = sizes w in
       ap (made n)
       (span-agree (filtered len t x) (filtered len t y) (2 * n) (8 - n)
       (λ i a b. local w t x y s .same i (record { from = omega arith; to = omega arith })))

@@ -2,14 +2,14 @@
 use mathlib.Core.Path.{_≡_, refl, _∙_}
 use mathlib.Core.Bool.{Bool, true, false, cond}
 use mathlib.Core.List.{List}
-use Prim.Native.Nat.{ℕ, _+_, _-_, _*_, _/_, _≤_, _<_}
+use Prim.Native.Nat.{ℕ, _+_, _-_, _*_, _≤_, _<_}
 use native.Mathlib.Omega.{arith}
 use lib.Dec.{ltb}
 use lib.ListN.{getD}
 use Rattle.loops.proofs.Tables.{each-at}
 use Rattle.standard.specs.Sizes.{Tx_Wide, Tx_High}
 use Rattle.units.specs.Memory.{halfUnits}
-use Rattle.units.specs.Sizes.{log2, lumaClass, chromaClass}
+use Rattle.units.specs.Sizes.{chromaClass}
 use Rattle.mask_edges.specs.declared.edge.Pass.{Pass}
 use Rattle.mask_edges.specs.Folds.{bitIn, classes, stores, gridPass, gridMasks, cellPass, cellMasks, classIn, stepIn, passOf, Held, Told}
 
@@ -35,11 +35,13 @@ pub grid-both : (c r c₀ r₀ : Pass) (class : ℕ → ℕ) (t w h kw kh : ℕ)
 unfolding gridMasks
 grid-both c r c₀ r₀ class t w h kw kh skip a l ms ms′ ms″ ec er ew eh ekw ekh e e′ = e′ ∙ rw (e, ekw, ekh, ew, eh, ec, er) refl
 
-pub context-filled : (class : ℕ → ℕ) (n m k side t : ℕ) (c c′ : List ℕ) → c′ ≡ stores n (λ _. k) c → n ≡ m → k ≡ class side → side ≡ t → c′ ≡ stores m (λ _. class t) c
+pub context-filled : (class : ℕ → ℕ) (n m k side t : ℕ) (c c′ : List ℕ) → c′ ≡ stores n (λ _. k) c → n ≡ m → k ≡ class side → side ≡ t → c′ ≡ stores m
+    (λ _. class t) c
 context-filled class n m k side t c c′ e en ek es = e ∙ rw (en, ek, es) refl
 
 module _ (p p₀ : Pass) (txa txa₀ : List ℕ) (e : p ≡ p₀) (f : txa ≡ txa₀) where
-  pub context-taken : (c c′ : List ℕ) → c′ ≡ stores (p .along) (classIn txa p (p .across - 1)) c → c′ ≡ stores (p₀ .along) (classIn txa₀ p₀ (p₀ .across - 1)) c
+  pub context-taken : (c c′ : List ℕ) → c′ ≡ stores (p .along) (classIn txa p (p .across - 1)) c → c′ ≡ stores (p₀ .along)
+      (classIn txa₀ p₀ (p₀ .across - 1)) c
   context-taken c c′ g = g ∙ rw (e, f) refl
 
 pub cells-both : (c r c₀ r₀ : Pass) (txa txa₀ : List ℕ) (skip : Bool) (a l ms ms′ ms″ : List ℕ) → c ≡ c₀ → r ≡ r₀ → txa ≡ txa₀

@@ -6,18 +6,16 @@ use mathlib.Core.List.{List}
 use Prim.Native.Nat.{ℕ, zero, suc, _+_, _-_, _*_, _/_, _%_, _≤_, _<_, min}
 use native.Mathlib.Omega.{arith}
 use native.Mathlib.Nat.{zero-add, zero-mod, mul-mod-left, mul-pos, mod-add-div', le-div-iff-mul-le}
-use native.Mathlib.Decide.{ℕ-discrete, decLt, decLe}
+use native.Mathlib.Decide.{ℕ-discrete, decLe}
 use lib.Dec.{eqb, ltb, leb}
-use lib.ListN.{length}
 use borrow.Author.Tests.{ltb-true, ltb-false}
-use Rattle.loops.specs.Run.{upTo}
 use Rattle.loops.specs.Any.{anyBelow, Below}
 use Rattle.loops.specs.Exactly.{Reflects}
 use Rattle.loops.proofs.Anys.{any-same}
 use Rattle.loops.proofs.Reflected.{reflects-leb, reflects-eqb, reflects-flag, reflects-and, reflects-or, reflects-any}
 use Rattle.bits.specs.Mark.{isSet, mark, marks, Adds}
 use Rattle.bits.proofs.Marks.{adds-mark, adds-then, adds-upTo, adds-marks}
-use Rattle.mask_edges.specs.Recording.{Sweep, isEdge, classBefore, classAt, edges}
+use Rattle.mask_edges.specs.Recording.{Sweep, classBefore, classAt, edges}
 use Rattle.mask_edges.specs.Folds.{blockEdge, stepEdges, walk, lineEdges, gridPass, cellPass}
 use Rattle.mask_edges.proofs.Halves.{reflects-same}
 use Rattle.mask_edges.proofs.Turns.{stepping}
@@ -65,7 +63,8 @@ module _ (S : Sweep) (bit : ℕ → ℕ → ℕ → ℕ) where
   edges-told e =
       reflects-any (S .across) _ _
       (λ u _. reflects-any (S .along) _ _
-      (λ v _. reflects-and (reflects-and (reflects-eqb (u % S .side u v) 0) (reflects-or (reflects-eqb u 0) (reflects-flag (S .inner)))) (reflects-eqb (own S bit u v) e)))
+      (λ v _. reflects-and (reflects-and (reflects-eqb (u % S .side u v) 0) (reflects-or (reflects-eqb u 0) (reflects-flag (S .inner))))
+      (reflects-eqb (own S bit u v) e)))
 
   -- the block's own edge
   firsts : ℕ → Bool
@@ -161,7 +160,9 @@ module _ (S : Sweep) (bit : ℕ → ℕ → ℕ → ℕ) where
 
       steps-told : (e : ℕ) → Reflects (steps e) (Below ((S .across - 1) / s) (λ i. Below (S .along) (λ v. bitAt S bit ((i + 1) * s) (S .class s) v ≡ e)))
       unfolding steps
-      steps-told e = reflects-any ((S .across - 1) / s) _ _ (λ i _. reflects-any (S .along) _ _ (λ v _. reflects-eqb (bitAt S bit ((i + 1) * s) (S .class s) v) e))
+      steps-told e =
+          reflects-any ((S .across - 1) / s) _ _
+          (λ i _. reflects-any (S .along) _ _ (λ v _. reflects-eqb (bitAt S bit ((i + 1) * s) (S .class s) v) e))
 
       edges-steps : S .inner ≡ true → (e : ℕ) → (firsts e || steps e) ≡ edges S bit e
       edges-steps i e = reflects-same (reflects-or (firsts-told e) (steps-told e)) (edges-told e) (⊎-elim zeroth later) (λ q. which (q .0) (q .1) (q .2))
@@ -235,10 +236,12 @@ module _ (S : Sweep) (bit : ℕ → ℕ → ℕ → ℕ) where
             (λ q. adds-walk f (x + step x v) (class x v) (omega (arith, hs x v q lv (h q .0), T v .low x)) (λ _. onto x q (h q .0)))
           where
             by-test : (b : Bool) → ltb x (S .across) ≡ b
-                → (x < S .across → Adds n (walk (bitAt S bit) (S .across) (λ u. class u v) (λ u. step u v) v f (x + step x v) (class x v)) (onward v (x + step x v)))
+                → (x < S .across → Adds n (walk (bitAt S bit) (S .across) (λ u. class u v) (λ u. step u v) v f (x + step x v) (class x v))
+                (onward v (x + step x v)))
                 → Adds n
                 (λ ms. cond b
-                (walk (bitAt S bit) (S .across) (λ u. class u v) (λ u. step u v) v f (x + step x v) (class x v) (mark ms (bitAt S bit x (min (class x v) k) v))) ms)
+                (walk (bitAt S bit) (S .across) (λ u. class u v) (λ u. step u v) v f (x + step x v) (class x v)
+                (mark ms (bitAt S bit x (min (class x v) k) v))) ms)
                 (onward v x)
             by-test false e go = adds-idle n (onward v x) (onward-end v x (ltb-false x (S .across) e))
             by-test true e go =

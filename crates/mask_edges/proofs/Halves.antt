@@ -1,18 +1,17 @@
 -- A run of places or-ed in as two words, each the part of one half, is the run of marks: both have the same bits, and words with the same bits are the same.
-use mathlib.Core.Path.{_≡_, refl, sym, ap, ap₂, _∙_}
+use mathlib.Core.Path.{_≡_, refl, sym, ap, _∙_}
 use mathlib.Core.Bool.{Bool, true, false, _&&_, _||_, or-assoc, false≢true}
-use mathlib.Core.Logic.{_⊎_, inl, inr, ⊎-elim, by-cases}
+use mathlib.Core.Logic.{_⊎_, inl, inr, by-cases}
 use mathlib.Core.List.{List}
-use Prim.Native.Nat.{ℕ, zero, suc, _+_, _-_, _*_, _/_, _%_, _^_, _≤_, _<_}
+use Prim.Native.Nat.{ℕ, _+_, _-_, _*_, _/_, _%_, _^_, _≤_, _<_}
 use native.Mathlib.Omega.{arith}
 use native.Mathlib.Nat.{mod-lt}
 use native.Mathlib.Decide.{ℕ-discrete, decLt}
-use lib.Dec.{eqb, ltb, leb}
+use lib.Dec.{eqb}
 use lib.Bits.{bitOr, or-lt}
 use lib.Pow.{pow-pos, pow-mono, split}
 use lib.ListN.{length, getD, set, length-set}
 use lib.Seq.{getD-set-same, getD-set-other, set-out}
-use borrow.Author.Tests.{leb-true, ltb-true, le-leb, lt-ltb}
 use Rattle.loops.specs.Any.{anyBelow, Below}
 use Rattle.loops.specs.Exactly.{Reflects}
 use Rattle.loops.proofs.Reflected.{reflects-ltb, reflects-leb, reflects-eqb, reflects-as, reflects-and, reflects-or, reflects-any}
@@ -52,7 +51,8 @@ has-high w h j =
 run-bit : (n k j : ℕ) → Reflects (hasBit (2 ^ (n + k) - 2 ^ k) j) ((k ≤ j) × (j < k + n))
 run-bit n k j = rw (hasBit-run n k j) (reflects-and (reflects-leb k j) (reflects-ltb j (k + n)))
 
-module _ (n k h at lo hi : ℕ) (f : ℕ → ℕ) (hk : k + n ≤ 2 * h) (low : h ≤ 16) (el : lo ≡ (2 ^ (n + k) - 2 ^ k) % 2 ^ h) (eh : hi ≡ (2 ^ (n + k) - 2 ^ k) / 2 ^ h)
+module _ (n k h at lo hi : ℕ) (f : ℕ → ℕ) (hk : k + n ≤ 2 * h) (low : h ≤ 16) (el : lo ≡ (2 ^ (n + k) - 2 ^ k) % 2 ^ h)
+    (eh : hi ≡ (2 ^ (n + k) - 2 ^ k) / 2 ^ h)
     (ef : (v : ℕ) → f v ≡ 16 * (at + (k + v) / h) + (k + v) % h) where
   -- bit x is of the run: in the first word, in the second, and as a mark
   First : ℕ → Type 0

@@ -1,6 +1,6 @@
 -- What the tables of an inter block tell each pass: the class of every unit's transform, and at its start its side.
-use mathlib.Core.Path.{_≡_, refl, sym, ap, _∙_}
-use mathlib.Core.Bool.{Bool, true, false}
+use mathlib.Core.Path.{_≡_, refl, ap}
+use mathlib.Core.Bool.{Bool, false}
 use mathlib.Core.List.{List}
 use Prim.Native.Nat.{ℕ, _%_, _<_}
 use native.Mathlib.Omega.{arith}
@@ -9,7 +9,8 @@ use Rattle.standard.specs.Sizes.{Tx_Wide, Tx_High}
 use Rattle.units.specs.Sizes.{lumaClass}
 use Rattle.units.proofs.Rules.{tx-rule}
 use Rattle.decomp.specs.Split.{txAt}
-use Rattle.decomp.specs.Cells.{block, Covers, Cells}
+use Rattle.decomp.specs.Cells.{Covers, Cells}
+use Rattle.decomp.specs.Folds.{block}
 use Rattle.decomp.proofs.Leaves.{txAt-code, cells}
 use Rattle.decomp.proofs.Tiles.{txAt-same}
 use Rattle.mask_edges.specs.declared.edge.Pass.{Pass}
@@ -86,7 +87,8 @@ module _ (by4 bx4 w4 h4 t : ℕ) (skip : Bool) (ms a l : List ℕ) (c : Covers t
 
   module _ (txa : List ℕ) (p : Pass) (e : txa ≡ tables ms t w4 h4) where
     pub told-columns : p ≡ columnsOf false 16 by4 bx4 w4 h4 → Told txa p
-    told-columns ep = rw (e, ep) (told (tables ms t w4 h4) (columns (interBlock by4 bx4 w4 h4 skip t ms a l)) 16 0 bx4 by4 tables-columns luma-low (c .wide .0))
+    told-columns ep =
+        rw (e, ep) (told (tables ms t w4 h4) (columns (interBlock by4 bx4 w4 h4 skip t ms a l)) 16 0 bx4 by4 tables-columns luma-low (c .wide .0))
 
     pub told-rows : p ≡ rowsOf false 16 by4 bx4 w4 h4 → Told txa p
     told-rows ep = rw (e, ep) (told (tables ms t w4 h4) (rows (interBlock by4 bx4 w4 h4 skip t ms a l)) 16 1 by4 bx4 tables-rows luma-low (c .high .0))

@@ -1,14 +1,13 @@
 -- The masks and contexts that the recorders leave are the recording of their block: both passes set the bits of their edges, and the contexts hold the last classes.
-use mathlib.Core.Path.{_≡_, refl, sym, ap, _∙_}
-use mathlib.Core.Bool.{Bool, true, false, cond, not}
+use mathlib.Core.Path.{_≡_, refl, _∙_}
+use mathlib.Core.Bool.{Bool, true, false, not}
 use mathlib.Core.Logic.{by-cases}
 use mathlib.Core.List.{List}
 use Prim.Native.Nat.{ℕ, zero, suc, _+_, _-_, _*_, _/_, _≤_, _<_}
 use native.Mathlib.Omega.{arith}
 use native.Mathlib.Nat.{lt-of-lt-of-le}
 use native.Mathlib.Decide.{ℕ-discrete, decLt}
-use lib.Dec.{ltb}
-use lib.ListN.{length, getD, set, length-set}
+use lib.ListN.{length, getD, length-set}
 use lib.Seq.{getD-set-same, getD-set-other}
 use borrow.Author.Tests.{lt-ltb, le-ltb}
 use Rattle.standard.specs.Sizes.{Tx_Wide, Tx_High}
@@ -18,8 +17,8 @@ use Rattle.units.specs.Memory.{lumaBit, chromaBit, halfUnits}
 use Rattle.units.specs.Sizes.{lumaClass, chromaClass}
 use Rattle.units.proofs.Rules.{tx-rule}
 use Rattle.decomp.specs.Cells.{Covers}
-use Rattle.mask_edges.specs.Recording.{Block, Sweep, columns, rows, edges, contextAfter, Recorded, Contexts, chromaBits, blockOf, interBlock}
-use Rattle.mask_edges.specs.Folds.{edgeBit, classes, stores, columnsOf, rowsOf, gridMasks, cellMasks, tables, interMasks, lastRow, lastColumn, Room}
+use Rattle.mask_edges.specs.Recording.{Room, Block, Sweep, columns, rows, edges, contextAfter, Recorded, Contexts, chromaBits, blockOf, interBlock}
+use Rattle.mask_edges.specs.Folds.{edgeBit, classes, stores, columnsOf, rowsOf, gridMasks, cellMasks, tables, interMasks, lastRow, lastColumn}
 use Rattle.mask_edges.specs.Promises.{Promises}
 use Rattle.mask_edges.proofs.Words.{bit-in}
 use Rattle.mask_edges.proofs.Asks.{halves, chroma-low}
@@ -95,8 +94,10 @@ module _ (by4 bx4 w4 h4 hor ver : ℕ) (a l ms : List ℕ) (r : Room by4 bx4 w4 
     one-recorded =
         let w = tx-rule t c in
         recorded B (bitsOf chroma hor ver) ms _ _
-        (adds-grid (columns B) (bitsOf chroma hor ver 0) (length ms) (classes chroma) low (r .wide .0) (fits-columns chroma) (Tx_Wide t) (λ _ _. refl) (w .wide .low) skip refl)
-        (adds-grid (rows B) (bitsOf chroma hor ver 1) (length ms) (classes chroma) low (r .high .0) (fits-rows chroma) (Tx_High t) (λ _ _. refl) (w .high .low) skip refl)
+        (adds-grid (columns B) (bitsOf chroma hor ver 0) (length ms) (classes chroma) low (r .wide .0) (fits-columns chroma) (Tx_Wide t) (λ _ _. refl)
+        (w .wide .low) skip refl)
+        (adds-grid (rows B) (bitsOf chroma hor ver 1) (length ms) (classes chroma) low (r .high .0) (fits-rows chroma) (Tx_High t) (λ _ _. refl)
+        (w .high .low) skip refl)
 
     one-contexts : Contexts B (stores w4 (λ _. class (Tx_High t)) a) (stores h4 (λ _. class (Tx_Wide t)) l)
     unfolding B
@@ -106,7 +107,8 @@ module _ (by4 bx4 w4 h4 hor ver : ℕ) (a l ms : List ℕ) (r : Room by4 bx4 w4 
           left-is = taken (columns B) (λ _. class (Tx_Wide t)) l (r .left-units) (λ v _. refl) (λ v. refl);
         }
 
-module _ (by4 bx4 w4 h4 : ℕ) (skip : Bool) (t : ℕ) (tx-masks a l ms : List ℕ) (r : Room by4 bx4 w4 h4 0 0 (length ms) (length a) (length l)) (c : Covers t w4 h4) where
+module _ (by4 bx4 w4 h4 : ℕ) (skip : Bool) (t : ℕ) (tx-masks a l ms : List ℕ) (r : Room by4 bx4 w4 h4 0 0 (length ms) (length a) (length l))
+    (c : Covers t w4 h4) where
   I : Block
   I = interBlock by4 bx4 w4 h4 skip t tx-masks a l
 
@@ -122,9 +124,11 @@ module _ (by4 bx4 w4 h4 : ℕ) (skip : Bool) (t : ℕ) (tx-masks a l ms : List �
   unfolding cellMasks I
   inter-recorded =
       recorded I (bitsOf false 0 0) ms _ _
-      (adds-cells (columns I) (bitsOf false 0 0 0) (length ms) 3 luma-low (r .wide .0) (fits-columns by4 bx4 w4 h4 0 0 a l ms r (omega arith) (omega arith) false) _ _
+      (adds-cells (columns I) (bitsOf false 0 0 0) (length ms) 3 luma-low (r .wide .0)
+      (fits-columns by4 bx4 w4 h4 0 0 a l ms r (omega arith) (omega arith) false) _ _
       (across .tiles) (across .class) (across .step) skip refl)
-      (adds-cells (rows I) (bitsOf false 0 0 1) (length ms) 3 luma-low (r .high .0) (fits-rows by4 bx4 w4 h4 0 0 a l ms r (omega arith) (omega arith) false) _ _
+      (adds-cells (rows I) (bitsOf false 0 0 1) (length ms) 3 luma-low (r .high .0)
+      (fits-rows by4 bx4 w4 h4 0 0 a l ms r (omega arith) (omega arith) false) _ _
       (down .tiles) (down .class) (down .step) skip refl)
 
   inter-contexts : Contexts I (stores w4 (lastRow tx-masks t w4 h4) a) (stores h4 (lastColumn tx-masks t w4 h4) l)
@@ -132,7 +136,8 @@ module _ (by4 bx4 w4 h4 : ℕ) (skip : Bool) (t : ℕ) (tx-masks a l ms : List �
   inter-contexts =
       record {
         above-is = taken (rows I) (lastRow tx-masks t w4 h4) a (r .above-units) (λ v q. down .class (h4 - 1) v (omega (arith, r .high .0)) q) (λ v. refl);
-        left-is = taken (columns I) (lastColumn tx-masks t w4 h4) l (r .left-units) (λ v q. across .class (w4 - 1) v (omega (arith, r .wide .0)) q) (λ v. refl);
+        left-is = taken (columns I) (lastColumn tx-masks t w4 h4) l (r .left-units) (λ v q. across .class (w4 - 1) v (omega (arith, r .wide .0)) q)
+            (λ v. refl);
       }
 
 -- the same bits by their names in document 01

@@ -1,8 +1,7 @@
 -- Transforms side by side along a line: where one starts, the next starts at its end, since the units of one transform all have its side.
-use mathlib.Core.Path.{_≡_, refl, sym, ap, _∙_}
+use mathlib.Core.Path.{_≡_, sym, ap, _∙_}
 use mathlib.Core.Logic.{by-cases}
-use mathlib.Core.List.{List}
-use Prim.Native.Nat.{ℕ, zero, suc, _+_, _-_, _*_, _/_, _%_, _≤_, _<_}
+use Prim.Native.Nat.{ℕ, _+_, _-_, _*_, _/_, _%_, _≤_, _<_}
 use native.Mathlib.Decide.{ℕ-discrete}
 use native.Mathlib.Nat.{add-mul, one-mul, zero-add, mod-add-div', div-eq-of-lt-le, add-mod-right, mod-lt, zero-mod}
 use native.Mathlib.Omega.{arith}

@@ -5,7 +5,7 @@ use mathlib.Core.List.{List}
 use Prim.Native.Nat.{ℕ, _+_, _-_, _*_, _/_, _<_, min}
 use native.Mathlib.Nat.{div-le-self}
 use native.Mathlib.Omega.{arith}
-use lib.ListN.{length, set}
+use lib.ListN.{set}
 use Rattle.loops.proofs.Runs.{upTo-again}
 use Rattle.loops.proofs.Lists.{step-in, steps-in}
 use Rattle.bits.specs.Mark.{mark, marks}

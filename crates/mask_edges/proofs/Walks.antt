@@ -1,10 +1,9 @@
 -- The walk along a line by steps read from its cells: what is left to do from the code's place on is all there was to do, until the place is past the width.
-use mathlib.Core.Path.{_≡_, refl, sym, ap, _∙_}
+use mathlib.Core.Path.{_≡_, refl, sym, _∙_}
 use mathlib.Core.Bool.{Bool, true, false}
 use mathlib.Core.List.{List}
 use Prim.Native.Nat.{ℕ, zero, suc, _+_, _*_, _≤_, _<_, min}
 use native.Mathlib.Omega.{arith}
-use lib.ListN.{getD, set}
 use borrow.Author.Tests.{lt-ltb, le-ltb}
 use Rattle.loops.proofs.Runs.{upTo-again}
 use Rattle.bits.specs.Mark.{mark}
@@ -32,7 +31,8 @@ module _ (bit : ℕ → ℕ → ℕ → ℕ) (across : ℕ) (class step : ℕ �
     pub rest : goal ≡ walk bit across class step v f x k ms
     pub reached : Reach step x
 
-  pub left-on : (goal : List ℕ) (x k c m s : ℕ) (ms ms′ : List ℕ) → Left goal x k ms → x < across → 0 < step x → c ≡ class x → m ≡ min c k → ms′ ≡ mark ms (bit x m v)
+  pub left-on : (goal : List ℕ) (x k c m s : ℕ) (ms ms′ : List ℕ) → Left goal x k ms → x < across → 0 < step x → c ≡ class x → m ≡ min c k → ms′ ≡ mark ms
+      (bit x m v)
       → s ≡ step x → Left goal (x + s) c ms′
   unfolding walk
   left-on goal x k c m s ms ms′ l h p ec em ems es = go (l .f) (l .enough) (l .rest)

@@ -12,7 +12,6 @@
 --   cellAt pass what u v    the cell of the tables a of transforms that tells the class (what 0) or the step (1) at (u, v); classIn a p, stepIn a p
 --   tables ms t w4 h4       the tables of an inter block, from cells of 0
 --   intraMasks, chromaMasks, interMasks, lastRow, lastColumn     what the recorders leave
---   Room                    what they ask
 --   Held p len, Told        what the helpers ask: the block lies in the record; the cells hold classes, and steps that go on
 use mathlib.Core.Path.{_≡_}
 use mathlib.Core.Bool.{Bool, true, false, cond}
@@ -25,7 +24,8 @@ use Rattle.bits.specs.Mark.{mark, marks}
 use Rattle.standard.specs.Sizes.{Tx_Wide, Tx_High}
 use Rattle.units.specs.Memory.{lumaWord, chromaWord, halfUnits}
 use Rattle.units.specs.Sizes.{lumaClass, chromaClass}
-use Rattle.decomp.specs.Cells.{cell, block}
+use Rattle.decomp.specs.Cells.{cell}
+use Rattle.decomp.specs.Folds.{block}
 use Rattle.mask_edges.specs.declared.edge.Pass.{Pass}
 
 abbrev pub edgeWord : Bool → ℕ → ℕ → ℕ → ℕ → ℕ
@@ -135,11 +135,3 @@ lastRow ms t w4 h4 x = getD (tables ms t w4 h4) (cellAt 1 0 (h4 - 1) x) 0
 
 abbrev pub lastColumn : List ℕ → ℕ → ℕ → ℕ → ℕ → ℕ
 lastColumn ms t w4 h4 y = getD (tables ms t w4 h4) (cellAt 0 0 (w4 - 1) y) 0
-
--- the place and the size of a block in its record, and the contexts' lengths
-pub record Room (by4 bx4 w4 h4 hor ver words above left : ℕ) : Type 0 where
-  pub wide : (0 < w4) × (bx4 + w4 ≤ 2 * halfUnits hor)
-  pub high : (0 < h4) × (by4 + h4 ≤ 2 * halfUnits ver)
-  pub record-words : 640 ≤ words
-  pub above-units : w4 ≤ above
-  pub left-units : h4 ≤ left

@@ -7,8 +7,8 @@ use Rattle.standard.specs.Sizes.{Tx_Wide, Tx_High}
 use Rattle.units.specs.Memory.{lumaBit}
 use Rattle.units.specs.Sizes.{lumaClass, chromaClass}
 use Rattle.decomp.specs.Cells.{Covers}
-use Rattle.mask_edges.specs.Recording.{Recorded, Contexts, chromaBits, intraBlock, interBlock, chromaBlock}
-use Rattle.mask_edges.specs.Folds.{Room, stores, intraMasks, chromaMasks, interMasks, lastRow, lastColumn}
+use Rattle.mask_edges.specs.Recording.{Room, Recorded, Contexts, chromaBits, intraBlock, interBlock, chromaBlock}
+use Rattle.mask_edges.specs.Folds.{stores, intraMasks, chromaMasks, interMasks, lastRow, lastColumn}
 
 pub record Promises : Type 0 where
   pub intra : (by4 bx4 w4 h4 t : ℕ) (a l ms : List ℕ) → Room by4 bx4 w4 h4 0 0 (length ms) (length a) (length l) → t < 19

@@ -8,19 +8,20 @@
 --   edges S bit e       e is the bit of an edge
 --   Recorded            the bits of the block's edges are set, and no other changes; `bit pass unit class place` is the bit of an edge
 --   Contexts            the two contexts after the block
+--   Room                what the recorders ask: the block lies in its record, and the contexts reach as far; ss 0 for luma
 --   chromaBits hor ver  the bit of a chroma edge (of luma: lumaBit)
 --   intraBlock, interBlock, chromaBlock     the blocks that the three recorders take: of one transform t, or of those that tx_masks make
 --                       of t; inner edges of a skipped inter block do not count; a and l are the contexts above and left
 use mathlib.Core.Path.{_≡_}
 use mathlib.Core.Bool.{Bool, true, cond, not, _&&_, _||_}
 use mathlib.Core.List.{List}
-use Prim.Native.Nat.{ℕ, zero, suc, _+_, _-_, _%_, min}
+use Prim.Native.Nat.{ℕ, zero, suc, _+_, _-_, _*_, _%_, _≤_, _<_, min}
 use lib.Dec.{eqb, ltb}
 use lib.ListN.{length, getD}
 use Rattle.loops.specs.Any.{anyBelow}
 use Rattle.bits.specs.Mark.{isSet}
 use Rattle.standard.specs.Sizes.{Tx_Wide, Tx_High}
-use Rattle.units.specs.Memory.{chromaBit}
+use Rattle.units.specs.Memory.{chromaBit, halfUnits}
 use Rattle.units.specs.Sizes.{lumaClass, chromaClass}
 use Rattle.decomp.specs.Split.{txAt}
 
@@ -125,3 +126,10 @@ interBlock by4 bx4 w4 h4 skip t tx-masks a l = blockOf lumaClass (not skip) (txA
 
 abbrev pub chromaBlock : ℕ → ℕ → ℕ → ℕ → Bool → ℕ → List ℕ → List ℕ → Block
 chromaBlock by4 bx4 w4 h4 skip t a l = blockOf chromaClass (not skip) (λ _ _. t) by4 bx4 w4 h4 a l
+
+pub record Room (by4 bx4 w4 h4 hor ver words above left : ℕ) : Type 0 where
+  pub wide : (0 < w4) × (bx4 + w4 ≤ 2 * halfUnits hor)
+  pub high : (0 < h4) × (by4 + h4 ≤ 2 * halfUnits ver)
+  pub record-words : 640 ≤ words
+  pub above-units : w4 ≤ above
+  pub left-units : h4 ≤ left

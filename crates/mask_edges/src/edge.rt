@@ -4,7 +4,6 @@ use units::LumaUnit;
 use units::memory::chroma_word;
 use units::memory::luma_word;
 ghost use mathlib.Core.Path.{_≡_};
-ghost use mathlib.Core.Bool.{true};
 ghost use Prim.Native.Nat.{_+_, _-_, _*_, _/_, _%_, _^_, _<_, _≤_, min};
 ghost use lib.ListN.{length};
 ghost use Rattle.bits.specs.Mark.{mark, marks};

@@ -4,7 +4,6 @@ use super::edge::least;
 use super::edge::set_edge;
 use super::edge::set_edges;
 ghost use mathlib.Core.Path.{_≡_};
-ghost use mathlib.Core.Bool.{Bool, true, false};
 ghost use Prim.Native.Nat.{_-_, _*_, _/_, _<_, _≤_, _+_};
 ghost use lib.ListN.{length, getD};
 ghost use Rattle.mask_edges.specs.Folds.{classes, bitIn, blockEdge, stepEdges, stores, gridPass, Held};

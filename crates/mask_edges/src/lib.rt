@@ -17,13 +17,14 @@ use units::sizes::luma_class;
 use units::sizes::luma_tx_high;
 use units::sizes::luma_tx_wide;
 ghost use mathlib.Core.Path.{_≡_};
-ghost use mathlib.Core.Bool.{Bool, true, false};
+ghost use mathlib.Core.Bool.{true, false};
 ghost use Prim.Native.Nat.{_<_, _≤_};
 ghost use lib.ListN.{length};
 ghost use Rattle.standard.specs.Sizes.{Tx_Wide, Tx_High};
 ghost use Rattle.units.specs.Sizes.{lumaClass, chromaClass};
 ghost use Rattle.decomp.specs.Cells.{Covers};
-ghost use Rattle.mask_edges.specs.Folds.{intraMasks, chromaMasks, interMasks, lastRow, lastColumn, stores, Room};
+ghost use Rattle.mask_edges.specs.Recording.{Room};
+ghost use Rattle.mask_edges.specs.Folds.{intraMasks, chromaMasks, interMasks, lastRow, lastColumn, stores};
 ghost use Rattle.mask_edges.specs.Promises.{Promises};
 
 pub fn mask_edges_intra(

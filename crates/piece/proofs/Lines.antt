@@ -1,31 +1,29 @@
 -- A line stored is a line's rule: the samples that the code stores are the rule's, for every choice and both sample types at once; and a
 -- line keeps samples in range, wherever they stand.
-use mathlib.Core.Path.{_≡_, refl, _∙_, sym, ap, ap₂}
+use mathlib.Core.Path.{_≡_, refl, _∙_, sym, ap}
 use mathlib.Core.Logic.{_≢_}
-use mathlib.Core.Bool.{Bool, true, false, cond}
-use mathlib.Core.List.{List, [], _∷_}
+use mathlib.Core.Bool.{true, false, cond}
+use mathlib.Core.List.{List}
 use Prim.Native.Nat.{ℕ, zero, suc, _+_, _-_, _*_, _≤_, _<_}
-use native.Mathlib.Nat.{mul-le-mul-right}
 use native.Mathlib.Omega.{arith}
 use lib.Dec.{eqb}
 use lib.ListN.{length, getD}
 use mir.Syntax.{w8}
 use mir.Val.{Fits}
-use Rattle.loops.specs.Run.{upTo}
 use Rattle.standard.specs.Masks.{hevMask, filterMask}
 use Rattle.standard.specs.Line.{filtered}
 use Rattle.standard.specs.declared.Bounds.{Bounds}
-use Rattle.plane.specs.Line.{window, put, changed, lineAt}
-use Rattle.line.specs.Choice.{choice, output}
+use Rattle.plane.specs.Line.{put, changed, lineAt}
+use Rattle.line.specs.Choice.{choice}
 use Rattle.line.specs.Place.{of, make}
-use Rattle.line.specs.Rule.{side, span, change, placed, rule}
-use Rattle.line.specs.Width.{Width, Wide, Within, Same, Below, reads, writes}
+use Rattle.line.specs.Rule.{side, change, rule}
+use Rattle.line.specs.Width.{Width, Same, Under, reads}
 use Rattle.line.specs.declared.Line.{Line}
-use Rattle.line.proofs.Laws.{below}
 use Rattle.line.proofs.Flags.{inner-fails}
-use Rattle.line.proofs.Outputs.{by-choice, reads-few, two-read, writes-reads, wide-of, wide-reads, last-wide, fewer, inner-agree}
-use Rattle.line.proofs.Rules.{span-agree, side-few, change-agree}
-use Rattle.piece.specs.Samples.{index, across, seen, stored, PieceBelow}
+use Rattle.line.proofs.Choices.{output, by-choice, wide-of, last-wide, sizes}
+use Rattle.line.proofs.Outputs.{fewer, two-read, more-read, inner-agree}
+use Rattle.line.proofs.Rules.{span-agree, change-agree}
+use Rattle.piece.specs.Samples.{index, across, seen, stored}
 use Rattle.piece.proofs.Places.{window-same, read-same, closer}
 
 module _ {len : ℕ} (w : Width len) (t : Bounds) (q st : ℕ) (s : List ℕ) (low : reads len * st ≤ q) where
@@ -33,7 +31,7 @@ module _ {len : ℕ} (w : Width len) (t : Bounds) (q st : ℕ) (s : List ℕ) (l
   pub by-samples : (y : ℕ → ℕ) → Same (reads len) y (across q st s) → lineAt st (rule len t) q s ≡ changed st q (change len t y) s
   unfolding lineAt
   by-samples y e =
-      let r = reads-few w in
+      let z = sizes w in
       let v = window-same (reads len) q st s (omega arith) low in
       ap (λ c. changed st q c s) (change-agree w t _ y (record { same = λ k i. v .same k i ∙ sym (e .same k i) }))
 
@@ -60,19 +58,19 @@ reading q st s w a b e = record { width = w; low = a; high = b; holds = e }
 
 module _ {len q st : ℕ} {s : List ℕ} {l : Line} (d : Read len q st s l) where
   as-read : Same (reads len) (of l) (across q st s)
-  as-read = read-same (reads len) (across q st s) l (reads-few (d .width)) (d .holds)
+  as-read = read-same (reads len) (across q st s) l (sizes (d .width) .seven-read) (d .holds)
 
   pub passed : (t : Bounds) (a : Line) → a ≡ make (seen 2 (across q st s)) → filterMask 4 t (of a) ≡ true → filterMask 4 t (of l) ≡ true
   passed t a ea f =
       let i = read-same 2 (across q st s) a (omega arith) ea in
       inner-agree t (of l) (of a) (record { same = λ k v. as-read .same k (fewer (two-read (d .width)) v) ∙ sym (i .same k v) }) ∙ f
 
-  pub below-2 : {m : ℕ} → Below m (reads len) (across q st s) → Below m 2 (of l)
-  below-2 h = record { below = λ k i. let g = fewer (two-read (d .width)) i in rw (as-read .same k g) (h .below k g) }
+  pub below-2 : {m : ℕ} → Under m (reads len) (across q st s) → Under m 2 (of l)
+  below-2 h = record { under = λ k i. let g = fewer (two-read (d .width)) i in rw (as-read .same k g) (h .under k g) }
 
   -- samples of a byte are below 256
-  pub bytes-below : ((k : ℕ) → Fits w8 (getD s k 0)) → Below 256 (reads len) (across q st s)
-  bytes-below h = record { below = λ k i. omega (arith, h (index q st k)) }
+  pub bytes-below : ((k : ℕ) → Fits w8 (getD s k 0)) → Under 256 (reads len) (across q st s)
+  bytes-below h = record { under = λ k i. omega (arith, h (index q st k)) }
 
   module _ (t : Bounds) {n : ℕ} (e : choice len t (of l) ≡ n) where
     -- m samples a side of the choice n
@@ -91,13 +89,13 @@ module _ {len q st : ℕ} {s : List ℕ} {l : Line} (d : Read len q st s l) wher
     kept-line z = kept (d .width) t q st s (d .low) (of l) as-read (e ∙ z)
 
     wide-reads-of : 2 ≤ n → n + 1 ≤ reads len
-    wide-reads-of h = rw e at (wide-reads (wide-of (d .width) t (of l) (rw e h)))
+    wide-reads-of h = rw e at (more-read (wide-of (d .width) t (of l) (rw e h)))
 
     pub in-list : 2 ≤ n → (n * st ≤ q) × (q + (n - 1) * st < length s)
     in-list h = let g = wide-reads-of h in closer n (reads len) st q (length s) (omega arith) (d .low) (d .high)
 
-    pub below-wide : {m : ℕ} → 2 ≤ n → Below m (reads len) (across q st s) → Below m (n + 1) (of l)
-    below-wide h b = record { below = λ k i. let g = fewer (wide-reads-of h) i in rw (as-read .same k g) (b .below k g) }
+    pub below-wide : {m : ℕ} → 2 ≤ n → Under m (reads len) (across q st s) → Under m (n + 1) (of l)
+    below-wide h b = record { under = λ k i. let g = fewer (wide-reads-of h) i in rw (as-read .same k g) (b .under k g) }
 
     pub last-choice : n ≢ 0 → n ≢ 1 → n ≢ 2 → n ≢ 3 → choice len t (of l) ≡ 6
     last-choice a b = last n e (at-least-2 n a b)

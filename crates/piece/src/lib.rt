@@ -6,13 +6,13 @@ ghost use mathlib.Core.List.{[], _∷_};
 ghost use Prim.Native.Nat.{_+_, _-_, _*_, _<_, _≤_};
 ghost use lib.ListN.{length, getD};
 ghost use Rattle.standard.specs.Masks.{hevMask};
+ghost use Rattle.standard.specs.Narrow.{narrow};
 ghost use Rattle.standard.specs.Wide.{wide};
 ghost use Rattle.plane.specs.Line.{put, lineAt, pieceAt};
-ghost use Rattle.line.specs.Choice.{output};
 ghost use Rattle.line.specs.Place.{of, make};
 ghost use Rattle.line.specs.Rule.{rule};
-ghost use Rattle.line.specs.Width.{Width, Below, reads};
-ghost use Rattle.piece.specs.Samples.{across, seen, stored, PieceBelow};
+ghost use Rattle.line.specs.Width.{Width, Under, reads};
+ghost use Rattle.piece.specs.Samples.{across, seen, stored, PieceUnder};
 use line::Line;
 use standard::Bounds;
 
@@ -162,8 +162,8 @@ fn store6_8(
 }
 
 fn narrow_8(s: &mut [u8], q: usize, st: usize, t: Bounds, l: Line)
-    requires { ⌜ (2 * st ≤ q) × (q + st < length (now s)) × (t .half ≡ 128) × Below (2 * t .half) 2 (of l) ⌝ }
-    ensures { λ _. ⌜ now (s .exit) ≡ stored st q (output 1 t (of l)) (cond (hevMask t (of l)) 1 2) (now (s .entry)) ⌝ }
+    requires { ⌜ (2 * st ≤ q) × (q + st < length (now s)) × (t .half ≡ 128) × Under (2 * t .half) 2 (of l) ⌝ }
+    ensures { λ _. ⌜ now (s .exit) ≡ stored st q (narrow (t .half) (hevMask t (of l)) (of l)) (cond (hevMask t (of l)) 1 2) (now (s .entry)) ⌝ }
 {
     let hev = line::hev_mask(t, l);
     let r = line::narrow4(t.half, hev, l);
@@ -175,7 +175,7 @@ fn narrow_8(s: &mut [u8], q: usize, st: usize, t: Bounds, l: Line)
 }
 
 fn wide6_8(s: &mut [u8], q: usize, st: usize, l: Line)
-    requires { ⌜ (2 * st ≤ q) × (q + st < length (now s)) × Below 256 3 (of l) ⌝ }
+    requires { ⌜ (2 * st ≤ q) × (q + st < length (now s)) × Under 256 3 (of l) ⌝ }
     ensures { λ _. ⌜ now (s .exit) ≡ stored st q (wide 2 1 3 (of l)) 2 (now (s .entry)) ⌝ }
 {
     let r = line::wide6(l);
@@ -183,7 +183,7 @@ fn wide6_8(s: &mut [u8], q: usize, st: usize, l: Line)
 }
 
 fn wide8_8(s: &mut [u8], q: usize, st: usize, l: Line)
-    requires { ⌜ (3 * st ≤ q) × (q + 2 * st < length (now s)) × Below 256 4 (of l) ⌝ }
+    requires { ⌜ (3 * st ≤ q) × (q + 2 * st < length (now s)) × Under 256 4 (of l) ⌝ }
     ensures { λ _. ⌜ now (s .exit) ≡ stored st q (wide 3 0 3 (of l)) 3 (now (s .entry)) ⌝ }
 {
     let r = line::wide8(l);
@@ -191,7 +191,7 @@ fn wide8_8(s: &mut [u8], q: usize, st: usize, l: Line)
 }
 
 fn wide16_8(s: &mut [u8], q: usize, st: usize, l: Line)
-    requires { ⌜ (6 * st ≤ q) × (q + 5 * st < length (now s)) × Below 256 7 (of l) ⌝ }
+    requires { ⌜ (6 * st ≤ q) × (q + 5 * st < length (now s)) × Under 256 7 (of l) ⌝ }
     ensures { λ _. ⌜ now (s .exit) ≡ stored st q (wide 6 1 4 (of l)) 6 (now (s .entry)) ⌝ }
 {
     let r = line::wide16(l);
@@ -407,8 +407,8 @@ fn store6_16(
 }
 
 fn narrow_16(s: &mut [u16], q: usize, st: usize, t: Bounds, l: Line)
-    requires { ⌜ (2 * st ≤ q) × (q + st < length (now s)) × (0 < t .half) × (t .half ≤ 2048) × Below (2 * t .half) 2 (of l) ⌝ }
-    ensures { λ _. ⌜ now (s .exit) ≡ stored st q (output 1 t (of l)) (cond (hevMask t (of l)) 1 2) (now (s .entry)) ⌝ }
+    requires { ⌜ (2 * st ≤ q) × (q + st < length (now s)) × (0 < t .half) × (t .half ≤ 2048) × Under (2 * t .half) 2 (of l) ⌝ }
+    ensures { λ _. ⌜ now (s .exit) ≡ stored st q (narrow (t .half) (hevMask t (of l)) (of l)) (cond (hevMask t (of l)) 1 2) (now (s .entry)) ⌝ }
 {
     let hev = line::hev_mask(t, l);
     let r = line::narrow4(t.half, hev, l);
@@ -460,7 +460,7 @@ fn wide16_16(s: &mut [u16], q: usize, st: usize, l: Line)
 }
 
 fn line_16(s: &mut [u16], q: usize, st: usize, wd: u32, t: Bounds)
-    requires { ⌜ Width wd × (reads wd * st ≤ q) × (q + (reads wd - 1) * st < length (now s)) × (0 < t .half) × (t .half ≤ 2048) × Below (2 * t .half) (reads wd) (across q st (now s)) ⌝ }
+    requires { ⌜ Width wd × (reads wd * st ≤ q) × (q + (reads wd - 1) * st < length (now s)) × (0 < t .half) × (t .half ≤ 2048) × Under (2 * t .half) (reads wd) (across q st (now s)) ⌝ }
     ensures { λ _. ⌜ now (s .exit) ≡ lineAt st (rule wd t) q (now (s .entry)) ⌝ }
 {
     let a = read2_16(s, q, st);
@@ -488,7 +488,7 @@ fn line_16(s: &mut [u16], q: usize, st: usize, wd: u32, t: Bounds)
 }
 
 pub fn piece_16(s: &mut [u16], q: usize, sa: usize, st: usize, wd: u32, t: Bounds)
-    requires { ⌜ Width wd × (reads wd * st ≤ q) × (q + 3 * sa + (reads wd - 1) * st < length (now s)) × (0 < t .half) × (t .half ≤ 2048) × PieceBelow (2 * t .half) (reads wd) sa st q (now s) ⌝ }
+    requires { ⌜ Width wd × (reads wd * st ≤ q) × (q + 3 * sa + (reads wd - 1) * st < length (now s)) × (0 < t .half) × (t .half ≤ 2048) × PieceUnder (2 * t .half) (reads wd) sa st q (now s) ⌝ }
     ensures { λ _. ⌜ now (s .exit) ≡ pieceAt sa st (rule wd t) q (now (s .entry)) ⌝ }
 {
     for i in 0..4 {

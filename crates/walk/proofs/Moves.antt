@@ -19,7 +19,7 @@ use Rattle.bits.specs.Walk.{visits}
 use Rattle.bits.proofs.Words.{word-some}
 use Rattle.bits.proofs.Walks.{visits-none, visits-set, visits-clear, visits-stop, walk-test, walk-on, walk-off, walk-next, word-set, word-clear}
 use Rattle.line.specs.Width.{Width, reads}
-use Rattle.piece.specs.Samples.{PieceBelow}
+use Rattle.piece.specs.Samples.{PieceUnder}
 use Rattle.walk.specs.Walk.{levelUsed, highest, lenOf, Units, setIn, lenAt, levelAt, indexAt, visit, visitAt, walked}
 use Rattle.walk.specs.Ready.{Ready, Walkable, InRange}
 use Rattle.walk.proofs.Leaves.{width}
@@ -142,7 +142,7 @@ module _ {depth : ℕ} {e i : List ℕ} {u : Units} {s₀ s : List ℕ} {xy p lv
 
         pub asked-16 : 8 ≤ depth → depth ≤ 12 → Walkable u (length s₀) → InRange (2 ^ depth) u s₀
             → Width wd × (l < 64) × (reads wd * u .st ≤ p) × (p + 3 * u .sa + (reads wd - 1) * u .st < length s) × (8 ≤ depth) × (depth ≤ 12)
-            × PieceBelow (2 ^ depth) (reads wd) (u .sa) (u .st) p s
+            × PieceUnder (2 ^ depth) (reads wd) (u .sa) (u .st) p s
         asked-16 d h ok b =
             let g = asked ok in
             (g .0, g .1, g .2, g .3, d, h, rw (ew, v .index, v .done) (next-below depth e i u s₀ d ok b (v .k) is-set))

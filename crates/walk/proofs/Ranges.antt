@@ -10,7 +10,7 @@ use Rattle.bits.specs.Walk.{visits}
 use Rattle.plane.specs.Line.{pieceAt}
 use Rattle.line.specs.Rule.{rule}
 use Rattle.line.specs.Width.{Width, reads}
-use Rattle.piece.specs.Samples.{index, PieceBelow}
+use Rattle.piece.specs.Samples.{index, PieceUnder}
 use Rattle.piece.proofs.Ranges.{piece-below}
 use Rattle.walk.specs.Walk.{thresholds, highest, Units, setIn, lenAt, levelAt, indexAt, visit, visitAt}
 use Rattle.walk.specs.Ready.{Walkable, InRange}
@@ -18,7 +18,7 @@ use Rattle.walk.proofs.Leaves.{width}
 use Rattle.walk.proofs.Visits.{top, half-pos}
 
 visit-below : (depth : ℕ) (e i : List ℕ) (sa st : ℕ) {len : ℕ} (lvl q : ℕ) (s : List ℕ) → 8 ≤ depth → Width len → reads len * st ≤ q
-    → PieceBelow (2 ^ depth) (reads len) sa st q s → (j : ℕ) → getD s j 0 < 2 ^ depth → getD (visit depth e i sa st len lvl q s) j 0 < 2 ^ depth
+    → PieceUnder (2 ^ depth) (reads len) sa st q s → (j : ℕ) → getD s j 0 < 2 ^ depth → getD (visit depth e i sa st len lvl q s) j 0 < 2 ^ depth
 unfolding visit thresholds
 visit-below depth e i sa st {len} lvl q s d w low b j h = go (eqb lvl 0)
   where
@@ -31,9 +31,9 @@ visit-below depth e i sa st {len} lvl q s d w low b j h = go (eqb lvl 0)
     go true = h
     go false = some
 
-carried : (m n sa st q : ℕ) (s t : List ℕ) → ((j : ℕ) → getD s j 0 < m → getD t j 0 < m) → PieceBelow m n sa st q s → PieceBelow m n sa st q t
+carried : (m n sa st q : ℕ) (s t : List ℕ) → ((j : ℕ) → getD s j 0 < m → getD t j 0 < m) → PieceUnder m n sa st q s → PieceUnder m n sa st q t
 carried m n sa st q s t f b =
-    record { line = λ i h. record { below = λ k w. f (index (q + i * sa) st k) (b .line i h .below k w) } }
+    record { line = λ i h. record { under = λ k w. f (index (q + i * sa) st k) (b .line i h .under k w) } }
 
 module _ (depth : ℕ) (e i : List ℕ) (u : Units) (s : List ℕ) (d : 8 ≤ depth) (ok : Walkable u (length s)) (b : InRange (2 ^ depth) u s) where
   one-more : (k : ℕ) (t : List ℕ) → ((j : ℕ) → getD s j 0 < 2 ^ depth → getD t j 0 < 2 ^ depth) → (z : Bool) → hasBit (setIn u) k ≡ z
@@ -50,5 +50,5 @@ module _ (depth : ℕ) (e i : List ℕ) (u : Units) (s : List ℕ) (d : 8 ≤ de
 
   -- the piece that comes after k places
   pub next-below : (k : ℕ) → hasBit (setIn u) k ≡ true
-      → PieceBelow (2 ^ depth) (reads (lenAt u k)) (u .sa) (u .st) (indexAt u k) (visits k (setIn u) (visitAt depth e i u) s)
+      → PieceUnder (2 ^ depth) (reads (lenAt u k)) (u .sa) (u .st) (indexAt u k) (visits k (setIn u) (visitAt depth e i u) s)
   next-below k z = carried (2 ^ depth) (reads (lenAt u k)) (u .sa) (u .st) (indexAt u k) s _ (visits-below k) (b .piece k z)

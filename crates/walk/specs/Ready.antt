@@ -9,7 +9,7 @@ use Prim.Native.Nat.{ℕ, _+_, _-_, _*_, _≤_, _<_}
 use lib.ListN.{length, getD}
 use Rattle.bits.specs.Bit.{hasBit}
 use Rattle.line.specs.Width.{reads}
-use Rattle.piece.specs.Samples.{PieceBelow}
+use Rattle.piece.specs.Samples.{PieceUnder}
 use Rattle.walk.specs.Walk.{Units, setIn, lenAt, indexAt}
 
 pub record Ready (u : Units) (size n : ℕ) : Type 0 where
@@ -25,4 +25,4 @@ pub record Walkable (u : Units) (size : ℕ) : Type 0 where
   pub ready : (n : ℕ) → hasBit (setIn u) n ≡ true → Ready u size n
 
 pub record InRange (m : ℕ) (u : Units) (s : List ℕ) : Type 0 where
-  pub piece : (n : ℕ) → hasBit (setIn u) n ≡ true → PieceBelow m (reads (lenAt u n)) (u .sa) (u .st) (indexAt u n) s
+  pub piece : (n : ℕ) → hasBit (setIn u) n ≡ true → PieceUnder m (reads (lenAt u n)) (u .sa) (u .st) (indexAt u n) s

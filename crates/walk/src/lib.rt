@@ -5,7 +5,7 @@ ghost use mathlib.Core.Path.{_≡_};
 ghost use Prim.Native.Nat.{ℕ, _+_, _-_, _*_, _^_, _<_, _≤_};
 ghost use lib.ListN.{length, getD};
 ghost use Rattle.line.specs.Width.{Width, reads};
-ghost use Rattle.piece.specs.Samples.{PieceBelow};
+ghost use Rattle.piece.specs.Samples.{PieceUnder};
 ghost use Rattle.walk.specs.Walk.{levelUsed, thresholds, highest, lenOf, units, visit, walked};
 ghost use Rattle.walk.specs.Ready.{Walkable, InRange};
 ghost use Rattle.walk.specs.Promises.{Promises};
@@ -137,7 +137,7 @@ fn visit_16(
     i: &[u8; 64],
     depth: u32,
 )
-    requires { ⌜ Width wd × (l < 64) × (reads wd * st ≤ q) × (q + 3 * sa + (reads wd - 1) * st < length (now dst)) × (8 ≤ depth) × (depth ≤ 12) × PieceBelow (2 ^ depth) (reads wd) sa st q (now dst) ⌝ }
+    requires { ⌜ Width wd × (l < 64) × (reads wd * st ≤ q) × (q + 3 * sa + (reads wd - 1) * st < length (now dst)) × (8 ≤ depth) × (depth ≤ 12) × PieceUnder (2 ^ depth) (reads wd) sa st q (now dst) ⌝ }
     ensures { λ _. ⌜ now (dst .exit) ≡ visit depth (now (e .entry)) (now (i .entry)) sa st wd l q (now (dst .entry)) ⌝ }
 {
     if l == 0 {

@@ -1,18 +1,19 @@
 -- The rows passed are done, each as wide as the width counts.
-use Rattle.decomp.proofs.Blocks.{place-at, block-done, rows-step}
-use Rattle.decomp.specs.Cells.{decomp, masksFrom, grid}
-use Rattle.units.proofs.Rules.{tx-rule}
-use denote.Ref.{now}
-use lib.ListN.{length}
-use borrow.Author.Needs.{needs}
-use native.Mathlib.Omega.{arith}
 use mathlib.Core.Path.{_≡_, refl, _∙_}
 use Prim.Native.Nat.{_-_, _≤_}
+use native.Mathlib.Omega.{arith}
+use lib.ListN.{length}
+use denote.Ref.{now}
+use borrow.Author.Needs.{needs}
+use Rattle.units.proofs.Rules.{tx-rule}
+use Rattle.decomp.specs.Folds.{decomp, masksFrom, grid}
+use Rattle.decomp.proofs.Blocks.{place-at, block-done, rows-step}
 use Rattle.decomp.proofs.decomp_block.Statement.{statement}
 use Rattle.decomp.proofs.decomp_block.Tie as tie
 
 abbrev Inv-loop : tie.InvT-loop
-Inv-loop txa₀ max-tx tx-masks columns rows y-off₀ txa y-off = (y-off ≤ rows) × (length txa ≡ length txa₀) × (txa ≡ grid columns y-off (decomp (masksFrom 0 tx-masks) max-tx) txa₀)
+Inv-loop txa₀ max-tx tx-masks columns rows y-off₀ txa y-off = (y-off ≤ rows) × (length txa ≡ length txa₀) ×
+    (txa ≡ grid columns y-off (decomp (masksFrom 0 tx-masks) max-tx) txa₀)
 
 abbrev μ-loop : tie.MeasureT-loop
 μ-loop txa₀ max-tx tx-masks columns rows y-off₀ txa y-off = rows - y-off
@@ -37,10 +38,16 @@ loop-holds : tie.Need-loop-holds Inv-loop μ-loop
 loop-holds c = (omega arith, refl, refl)
 
 decomp-row-requires : tie.Need-decomp-row-requires Inv-loop μ-loop
-decomp-row-requires c κs = (
-  c .before .before .loop .inv .1 ∙ c .before .before .before .before .before .before .before .before .pre .0,
-  λ x l. place-at (now (c .before .before .before .before .before .before .before .before .args .tx-masks)) _ _ _ _ _ _ _ (c .before .before .before .before .before .before .luma-tx-wide .ensures) (c .before .before .before .before .luma-tx-high .ensures) (c .before .before .before .before .before .tx-count .ensures) (c .before .before .before .tx-count2 .ensures) (c .before .before .before .before .before .before .before .before .pre .1) _ x (c .before .loop-test .taken) l,
-)
+decomp-row-requires c κs =
+    let c₃ = c .before .before .before in
+    let c₄ = c₃ .before in
+    let c₅ = c₄ .before in
+    let c₆ = c₅ .before in
+    let c₈ = c₆ .before .before in (
+      c .before .before .loop .inv .1 ∙ c₈ .pre .0,
+      λ x l. place-at (now (c₈ .args .tx-masks)) _ _ _ _ _ _ _ (c₆ .luma-tx-wide .ensures) (c₄ .luma-tx-high .ensures) (c₅ .tx-count .ensures)
+          (c₃ .tx-count2 .ensures) (c₈ .pre .1) _ x (c .before .loop-test .taken) l,
+    )
 
 add-y-off : tie.Need-add-y-off Inv-loop μ-loop
 add-y-off c = search needs
@@ -49,19 +56,27 @@ loop-less : tie.Need-loop-less Inv-loop μ-loop
 loop-less c = search needs
 
 loop-again : tie.Need-loop-again Inv-loop μ-loop
-loop-again c = (
-  omega arith,
-  c .before .before .decomp-row .kept .0 ∙ c .before .before .before .before .before .loop .inv .1,
-  rows-step (now (c .before .before .before .before .before .before .before .before .before .before .before .args .tx-masks)) _ (c .before .before .before .before .before .before .before .before .tx-count .result) (c .before .before .before .before .before .loop .y-off) _ _ _ (c .before .before .before .before .before .loop .inv .2) (c .before .before .decomp-row .ensures),
-)
+loop-again c =
+    let c₅ = c .before .before .before .before .before in
+    let c₈ = c₅ .before .before .before in
+    let c₁₁ = c₈ .before .before .before in (
+      omega arith,
+      c .before .before .decomp-row .kept .0 ∙ c₅ .loop .inv .1,
+      rows-step (now (c₁₁ .args .tx-masks)) _ (c₈ .tx-count .result) (c₅ .loop .y-off) _ _ _ (c₅ .loop .inv .2) (c .before .before .decomp-row .ensures),
+    )
 
 same-length : tie.Need-same-length Inv-loop μ-loop
 same-length c = search needs
 
 returns : tie.Need-returns Inv-loop μ-loop
 returns c =
+    let c₃ = c .before .before .before in
+    let c₄ = c₃ .before in
+    let c₅ = c₄ .before in
+    let c₇ = c₅ .before .before in
     let e : c .before .loop .y-off ≡ c .before .before .tx-count2 .result = omega arith in
-    block-done (now (c .before .before .before .before .before .before .before .args .tx-masks)) _ _ _ _ _ _ _ (c .before .before .before .before .before .luma-tx-wide .ensures) (c .before .before .before .luma-tx-high .ensures) (c .before .before .before .before .tx-count .ensures) (c .before .before .tx-count2 .ensures) _ _ _ e (c .before .loop .inv .2)
+    block-done (now (c₇ .args .tx-masks)) _ _ _ _ _ _ _ (c₅ .luma-tx-wide .ensures) (c₃ .luma-tx-high .ensures) (c₄ .tx-count .ensures)
+    (c .before .before .tx-count2 .ensures) _ _ _ e (c .before .loop .inv .2)
 
 pub decomp-block-spec : {M : Type 1} → statement M
 decomp-block-spec =

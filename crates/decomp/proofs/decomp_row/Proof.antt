@@ -1,6 +1,6 @@
-use Rattle.decomp.proofs.Blocks.{row-step}
 -- The columns passed are done.
-use Rattle.decomp.specs.Cells.{decomp, masksFrom}
+use Rattle.decomp.proofs.Blocks.{row-step}
+use Rattle.decomp.specs.Folds.{decomp, masksFrom}
 use Rattle.loops.specs.Run.{upTo}
 use lib.ListN.{length}
 use borrow.Author.Needs.{needs}
@@ -11,7 +11,8 @@ use Rattle.decomp.proofs.decomp_row.Statement.{statement}
 use Rattle.decomp.proofs.decomp_row.Tie as tie
 
 abbrev Inv-loop : tie.InvT-loop
-Inv-loop txa₀ max-tx y-off n tx-masks x-off₀ txa x-off = (x-off ≤ n) × (length txa ≡ length txa₀) × (txa ≡ upTo (decomp (masksFrom 0 tx-masks) max-tx y-off) x-off txa₀)
+Inv-loop txa₀ max-tx y-off n tx-masks x-off₀ txa x-off =
+    (x-off ≤ n) × (length txa ≡ length txa₀) × (txa ≡ upTo (decomp (masksFrom 0 tx-masks) max-tx y-off) x-off txa₀)
 
 abbrev μ-loop : tie.MeasureT-loop
 μ-loop txa₀ max-tx y-off n tx-masks x-off₀ txa x-off = n - x-off
@@ -20,7 +21,9 @@ loop-holds : tie.Need-loop-holds Inv-loop μ-loop
 loop-holds c = (omega arith, refl, refl)
 
 decomp-tx-requires : tie.Need-decomp-tx-requires Inv-loop μ-loop
-decomp-tx-requires c κs = (c .before .before .loop .inv .1 ∙ c .before .before .before .before .pre .0, c .before .before .before .before .pre .1 _ (c .before .loop-test .taken))
+decomp-tx-requires c κs =
+    let c₄ = c .before .before .before .before in
+    (c .before .before .loop .inv .1 ∙ c₄ .pre .0, c₄ .pre .1 _ (c .before .loop-test .taken))
 
 add-x-off : tie.Need-add-x-off Inv-loop μ-loop
 add-x-off c = search needs
@@ -29,7 +32,9 @@ loop-less : tie.Need-loop-less Inv-loop μ-loop
 loop-less c = search needs
 
 loop-again : tie.Need-loop-again Inv-loop μ-loop
-loop-again c = (omega arith, c .before .before .decomp-tx .kept .0 ∙ c .before .before .before .before .before .loop .inv .1, row-step _ _ _ _ _ _ _ (c .before .before .before .before .before .loop .inv .2) (c .before .before .decomp-tx .ensures))
+loop-again c =
+    let c₅ = c .before .before .before .before .before in
+    (omega arith, c .before .before .decomp-tx .kept .0 ∙ c₅ .loop .inv .1, row-step _ _ _ _ _ _ _ (c₅ .loop .inv .2) (c .before .before .decomp-tx .ensures))
 
 same-length : tie.Need-same-length Inv-loop μ-loop
 same-length c = search needs

@@ -1,11 +1,11 @@
 -- The rows passed are those of the rectangle.
-use Rattle.decomp.proofs.Fills.{fill-none, fill-step}
-use Rattle.decomp.specs.Cells.{fill}
-use lib.ListN.{length}
-use borrow.Author.Needs.{needs}
-use native.Mathlib.Omega.{arith}
 use mathlib.Core.Path.{_≡_, refl, _∙_}
 use Prim.Native.Nat.{_-_, _≤_}
+use native.Mathlib.Omega.{arith}
+use lib.ListN.{length}
+use borrow.Author.Needs.{needs}
+use Rattle.decomp.specs.Folds.{fill}
+use Rattle.decomp.proofs.Fills.{fill-none, fill-step}
 use Rattle.decomp.proofs.fill_cells.Statement.{statement}
 use Rattle.decomp.proofs.fill_cells.Tie as tie
 
@@ -35,8 +35,9 @@ loop-less c = search needs
 
 loop-again : tie.Need-loop-again Inv-loop μ-loop
 loop-again c =
+    let c₅ = c .before .before .before .before .before in
     let f = c .before .before .fill-run in
-    (omega arith, f .kept .0 ∙ c .before .before .before .before .before .loop .inv .1, fill-step _ _ _ _ _ _ _ (c .before .before .before .before .before .loop .inv .2) (f .ensures))
+    (omega arith, f .kept .0 ∙ c₅ .loop .inv .1, fill-step _ _ _ _ _ _ _ (c₅ .loop .inv .2) (f .ensures))
 
 same-length : tie.Need-same-length Inv-loop μ-loop
 same-length c = search needs

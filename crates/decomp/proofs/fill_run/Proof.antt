@@ -1,11 +1,11 @@
 -- The cells passed are those of the run.
-use Rattle.decomp.proofs.Fills.{run-none, run-step}
-use Rattle.decomp.specs.Cells.{run}
-use lib.ListN.{length, length-set}
-use borrow.Author.Needs.{needs}
-use native.Mathlib.Omega.{arith}
 use mathlib.Core.Path.{_≡_, refl}
 use Prim.Native.Nat.{_-_, _≤_}
+use native.Mathlib.Omega.{arith}
+use lib.ListN.{length, length-set}
+use borrow.Author.Needs.{needs}
+use Rattle.decomp.specs.Folds.{run}
+use Rattle.decomp.proofs.Fills.{run-none, run-step}
 use Rattle.decomp.proofs.fill_run.Statement.{statement}
 use Rattle.decomp.proofs.fill_run.Tie as tie
 

@@ -1,7 +1,7 @@
 -- The four rectangles are those of the tables.
-use Rattle.decomp.proofs.Fills.{put-step}
 use mathlib.Core.Path.{refl}
 use borrow.Author.Needs.{needs}
+use Rattle.decomp.proofs.Fills.{put-step}
 use Rattle.decomp.proofs.put_cells.Statement.{statement}
 use Rattle.decomp.proofs.put_cells.Tie as tie
 
@@ -49,8 +49,13 @@ same-length c = search needs
 
 returns : tie.Need-returns
 returns c =
-    put-step _ _ _ _ _ _ _ _ _ _ _ _ refl (c .before .before .before .before .before .before .before .before .before .before .before .before .before .before .before .before .luma-class .ensures) (c .before .before .before .before .before .before .before .luma-class2 .ensures) (c .before .before .before .before .before .before .before .before .before .before .before .before .before .before .before .fill-cells .ensures)
-    (c .before .before .before .before .before .before .before .before .before .before .before .fill-cells2 .ensures) (c .before .before .before .before .before .before .fill-cells3 .ensures) (c .before .before .fill-cells4 .ensures)
+    let c₆ = c .before .before .before .before .before .before in
+    let c₇ = c₆ .before in
+    let c₁₁ = c₇ .before .before .before .before in
+    let c₁₅ = c₁₁ .before .before .before .before in
+    let c₁₆ = c₁₅ .before in
+    put-step _ _ _ _ _ _ _ _ _ _ _ _ refl (c₁₆ .luma-class .ensures) (c₇ .luma-class2 .ensures) (c₁₅ .fill-cells .ensures)
+    (c₁₁ .fill-cells2 .ensures) (c₆ .fill-cells3 .ensures) (c .before .before .fill-cells4 .ensures)
 
 pub put-cells-spec : {M : Type 1} → statement M
 put-cells-spec =

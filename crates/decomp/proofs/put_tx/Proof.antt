@@ -1,8 +1,8 @@
 -- The sides and the place are those of the standard's size.
-use Rattle.decomp.proofs.Fills.{inside}
-use native.Mathlib.Omega.{arith}
 use mathlib.Core.Path.{refl, _∙_}
+use native.Mathlib.Omega.{arith}
 use borrow.Author.Needs.{needs}
+use Rattle.decomp.proofs.Fills.{inside}
 use Rattle.decomp.proofs.put_tx.Statement.{statement}
 use Rattle.decomp.proofs.put_tx.Tie as tie
 
@@ -14,24 +14,33 @@ luma-tx-high-requires c κs = search needs
 
 mul-put-cells : tie.Need-mul-put-cells
 mul-put-cells c =
-    let i = inside _ (c .before .before .before .before .args .y) (c .before .before .before .before .args .x) _ _ (c .before .before .before .before .pre .1) (c .before .before .before .before .pre .2) (c .before .before .before .before .pre .3) (c .before .before .luma-tx-wide .ensures) (c .before .luma-tx-high .ensures) in
+    let c₄ = c .before .before .before .before in
+    let i = inside _ (c₄ .args .y) (c₄ .args .x) _ _ (c₄ .pre .1) (c₄ .pre .2) (c₄ .pre .3) (c .before .before .luma-tx-wide .ensures)
+    (c .before .luma-tx-high .ensures) in
     omega arith
 
 mul-put-cells-2 : tie.Need-mul-put-cells-2
 mul-put-cells-2 c =
-    let i = inside _ (c .before .before .before .before .args .y) (c .before .before .before .before .args .x) _ _ (c .before .before .before .before .pre .1) (c .before .before .before .before .pre .2) (c .before .before .before .before .pre .3) (c .before .before .luma-tx-wide .ensures) (c .before .luma-tx-high .ensures) in
+    let c₄ = c .before .before .before .before in
+    let i = inside _ (c₄ .args .y) (c₄ .args .x) _ _ (c₄ .pre .1) (c₄ .pre .2) (c₄ .pre .3) (c .before .before .luma-tx-wide .ensures)
+    (c .before .luma-tx-high .ensures) in
     omega arith
 
 put-cells-requires : tie.Need-put-cells-requires
 put-cells-requires c κs =
-    let i = inside _ (c .before .before .before .before .args .y) (c .before .before .before .before .args .x) _ _ (c .before .before .before .before .pre .1) (c .before .before .before .before .pre .2) (c .before .before .before .before .pre .3) (c .before .before .luma-tx-wide .ensures) (c .before .luma-tx-high .ensures) in
+    let c₄ = c .before .before .before .before in
+    let i = inside _ (c₄ .args .y) (c₄ .args .x) _ _ (c₄ .pre .1) (c₄ .pre .2) (c₄ .pre .3) (c .before .before .luma-tx-wide .ensures)
+    (c .before .luma-tx-high .ensures) in
     omega arith
 
 same-length : tie.Need-same-length
 same-length c = search needs
 
 returns : tie.Need-returns
-returns c = c .before .before .put-cells .ensures ∙ rw (c .before .before .before .before .before .luma-tx-wide .ensures, c .before .before .before .before .luma-tx-high .ensures) refl
+returns c =
+    let c₄ = c .before .before .before .before in
+    let c₅ = c₄ .before in
+    c .before .before .put-cells .ensures ∙ rw (c₅ .luma-tx-wide .ensures, c₄ .luma-tx-high .ensures) refl
 
 pub put-tx-spec : {M : Type 1} → statement M
 put-tx-spec =

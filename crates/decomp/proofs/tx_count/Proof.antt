@@ -1,7 +1,7 @@
 -- A quotient is no larger than what is divided.
+use Prim.Native.Nat.{_-_}
 use native.Mathlib.Nat.{div-le-self}
 use native.Mathlib.Omega.{arith}
-use Prim.Native.Nat.{_-_}
 use borrow.Author.Needs.{needs}
 use Rattle.decomp.proofs.tx_count.Statement.{statement}
 use Rattle.decomp.proofs.tx_count.Tie as tie

@@ -1,11 +1,12 @@
 -- One line is the rule of its width: each arm stores the output of its choice, or nothing.
 -- One line is the rule of its width: each arm stores the output of its choice, or nothing.
+-- One line is the rule of its width: each arm stores the output of its choice, or nothing.
 use mathlib.Core.Path.{refl, sym, _∙_}
 use native.Mathlib.Omega.{arith}
 use borrow.Author.Needs.{needs}
+use Rattle.line.proofs.Choices.{output}
 use Rattle.line.proofs.Flags.{no, yes}
 use Rattle.line.proofs.Outputs.{two-read}
-use Rattle.line.specs.Choice.{output}
 use Rattle.line.specs.Width.{reads}
 use Rattle.piece.proofs.Lines.{failed-line, reading, passed, kept-line, stored-line, in-list, below-2, below-wide, last-choice, bytes-below}
 use Rattle.piece.proofs.Places.{closer}
@@ -65,6 +66,7 @@ same-length-3 : tie.Need-same-length-3
 same-length-3 c = search needs
 
 returns-3 : tie.Need-returns-3
+unfolding output
 returns-3 c =
     let n = c .before .before .before .before .before .before in
     let a = n .before .before .before .before .before .before .before .before .args in

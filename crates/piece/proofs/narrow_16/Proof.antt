@@ -11,7 +11,7 @@ hev-mask-requires c κs = search needs
 narrow4-requires : tie.Need-narrow4-requires
 narrow4-requires c κs =
     let p = c .before .before .pre in
-    let b = p .4 .below in (p .2, p .3, b 6 (lit tt tt), b 7 (lit tt tt), b 8 (lit tt tt), b 9 (lit tt tt))
+    let b = p .4 .under in (p .2, p .3, b 6 (lit tt tt), b 7 (lit tt tt), b 8 (lit tt tt), b 9 (lit tt tt))
 
 store1-16-requires : tie.Need-store1-16-requires
 store1-16-requires c κs = search needs

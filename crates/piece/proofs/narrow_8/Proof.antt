@@ -12,7 +12,7 @@ hev-mask-requires c κs = search needs
 narrow4-requires : tie.Need-narrow4-requires
 narrow4-requires c κs =
     let p = c .before .before .pre in
-    let b = p .3 .below in (
+    let b = p .3 .under in (
       omega arith,
       omega arith,
       b 6 (lit tt tt),

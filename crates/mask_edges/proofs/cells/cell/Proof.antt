@@ -7,58 +7,43 @@ use mathlib.Core.Path.{ap}
 use borrow.Author.Needs.{needs}
 use Rattle.mask_edges.proofs.cells.cell.Statement.{statement}
 use Rattle.mask_edges.proofs.cells.cell.Tie as tie
-use Rattle.mask_edges.proofs.cells.cell.Reads as reads
-use Rattle.mask_edges.proofs.cells.cell.Lts as lts
 
--- src/cells.rt:19:19
 mul-at : tie.Need-mul-at
 mul-at c = search needs
 
--- src/cells.rt:19:19
 add-at : tie.Need-add-at
 add-at c = search needs
 
--- src/cells.rt:19:18
 mul-at-2 : tie.Need-mul-at-2
 mul-at-2 c = search needs
 
--- src/cells.rt:19:18
 add-at-2 : tie.Need-add-at-2
 add-at-2 c = search needs
 
--- src/cells.rt:20:16
 shared-slice-read-result : tie.Need-shared-slice-read-result
 shared-slice-read-result c = search needs
 
--- src/cells.rt:20:9
 returns : tie.Need-returns
 returns c = ap (λ (k : ℕ). getD (now (c .before .before .args .txa)) k 0) (cell-across _ _ _ _ (c .before .if1 .taken))
 
--- src/cells.rt:22:16
 add-at-3 : tie.Need-add-at-3
 add-at-3 c = search needs
 
--- src/cells.rt:22:15
 mul-at-3 : tie.Need-mul-at-3
 mul-at-3 c = search needs
 
--- src/cells.rt:22:15
 add-at-4 : tie.Need-add-at-4
 add-at-4 c = search needs
 
--- src/cells.rt:22:14
 mul-at-4 : tie.Need-mul-at-4
 mul-at-4 c = search needs
 
--- src/cells.rt:22:14
 add-at-5 : tie.Need-add-at-5
 add-at-5 c = search needs
 
--- src/cells.rt:23:5
 shared-slice-read-result-2 : tie.Need-shared-slice-read-result-2
 shared-slice-read-result-2 c = search needs
 
--- src/cells.rt:14:1
 returns-2 : tie.Need-returns-2
 returns-2 c = ap (λ (k : ℕ). getD (now (c .before .before .args .txa)) k 0) (cell-down _ _ _ _ (c .before .if1 .left))
 

@@ -5,13 +5,10 @@ use denote.Ref.{now}
 use lib.ListN.{length, length-set}
 use borrow.Author.Needs.{needs}
 use native.Mathlib.Omega.{arith}
-use mathlib.Core.Path.{_≡_, refl, sym, ap, _∙_}
-use Prim.Native.Nat.{ℕ, _+_, _-_, _*_, _≤_, _<_}
+use mathlib.Core.Path.{_≡_, refl}
+use Prim.Native.Nat.{_-_, _≤_}
 use Rattle.mask_edges.proofs.cells.take_context.Statement.{statement}
 use Rattle.mask_edges.proofs.cells.take_context.Tie as tie
-use Rattle.mask_edges.proofs.cells.take_context.Reads as reads
-use Rattle.mask_edges.proofs.cells.take_context.Lts as lts
-use Rattle.mask_edges.proofs.cells.cell.Reads as cell-reads
 
 abbrev Inv-loop : tie.InvT-loop
 Inv-loop ctx₀ txa p n u v₀ ctx v = (v ≤ n) × (length ctx ≡ length ctx₀) × (ctx ≡ stores v (classIn txa p (p .across - 1)) ctx₀)
@@ -19,39 +16,36 @@ Inv-loop ctx₀ txa p n u v₀ ctx v = (v ≤ n) × (length ctx ≡ length ctx�
 abbrev μ-loop : tie.MeasureT-loop
 μ-loop ctx₀ txa p n u v₀ ctx v = n - v
 
--- src/cells.rt:67:13
 sub-u : tie.Need-sub-u Inv-loop μ-loop
 sub-u c = search needs
 
--- src/cells.rt:68:5
 loop-holds : tie.Need-loop-holds Inv-loop μ-loop
 loop-holds c = (omega arith, refl, stores-none _ _)
 
--- src/cells.rt:69:18
 cell-requires : tie.Need-cell-requires Inv-loop μ-loop
 cell-requires c κs = search needs
 
--- src/cells.rt:69:9
 slice-write-ctx : tie.Need-slice-write-ctx Inv-loop μ-loop
 slice-write-ctx c = search needs
 
--- src/cells.rt:68:9
 add-v : tie.Need-add-v Inv-loop μ-loop
 add-v c = search needs
 
--- src/cells.rt:68:5
 loop-less : tie.Need-loop-less Inv-loop μ-loop
 loop-less c = search needs
 
--- src/cells.rt:68:5
 loop-again : tie.Need-loop-again Inv-loop μ-loop
-loop-again c = (omega arith, simp length-set (c .before .before .loop .inv .1), stores-step (classIn (now (c .before .before .before .before .before .before .args .txa)) (c .before .before .before .before .before .before .args .p) (c .before .before .before .before .before .before .args .p .across - 1)) _ _ _ _ (c .before .before .loop .inv .2) (c .cell .ensures))
+loop-again c =
+    let c₆ = c .before .before .before .before .before .before in (
+      omega arith,
+      simp length-set (c .before .before .loop .inv .1),
+      stores-step
+          (classIn (now (c₆ .args .txa)) (c₆ .args .p) (c₆ .args .p .across - 1)) _ _ _ _ (c .before .before .loop .inv .2) (c .cell .ensures),
+    )
 
--- src/cells.rt:62:1
 same-length : tie.Need-same-length Inv-loop μ-loop
 same-length c = search needs
 
--- src/cells.rt:62:1
 returns : tie.Need-returns Inv-loop μ-loop
 returns c =
     let e : c .before .loop .v ≡ c .before .before .before .before .before .args .p .along = omega arith in

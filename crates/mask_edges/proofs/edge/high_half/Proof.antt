@@ -5,19 +5,14 @@ use native.Mathlib.Omega.{arith}
 use borrow.Author.Needs.{needs}
 use Rattle.mask_edges.proofs.edge.high_half.Statement.{statement}
 use Rattle.mask_edges.proofs.edge.high_half.Tie as tie
-use Rattle.mask_edges.proofs.edge.high_half.Reads as reads
-use Rattle.mask_edges.proofs.edge.high_half.Lts as lts
 
--- src/edge.rt:67:6
 shr-result : tie.Need-shr-result
 shr-result c = search needs
 
--- src/edge.rt:67:5
 cast-result : tie.Need-cast-result
 cast-result c =
     record { fits = lt-of-lt-of-le (shr-lt (c .args .half) (c .args .half) (c .pre .1)) (pow-mono {i = c .args .half} {j = 16} (omega arith)) }
 
--- src/edge.rt:63:1
 returns : tie.Need-returns
 returns c = search needs
 

@@ -7,24 +7,18 @@ use native.Mathlib.Omega.{arith}
 use borrow.Author.Needs.{needs}
 use Rattle.mask_edges.proofs.edge.low_half.Statement.{statement}
 use Rattle.mask_edges.proofs.edge.low_half.Tie as tie
-use Rattle.mask_edges.proofs.edge.low_half.Reads as reads
-use Rattle.mask_edges.proofs.edge.low_half.Lts as lts
 
--- src/edge.rt:60:12
 shl-result : tie.Need-shl-result
 shl-result c = search needs
 
--- src/edge.rt:60:11
 sub-result : tie.Need-sub-result
 sub-result c = rw (one-shl (c .args .half) 64 (omega arith)) (pow-pos (c .args .half))
 
--- src/edge.rt:60:5
 cast-result : tie.Need-cast-result
 cast-result c =
     rw (one-shl (c .args .half) 64 (omega arith))
     (record { fits = lt-of-lt-of-le (mask-lt (c .args .w) (c .args .half)) (pow-mono {i = c .args .half} {j = 16} (omega arith)) })
 
--- src/edge.rt:56:1
 returns : tie.Need-returns
 returns c = rw (one-shl (c .args .half) 64 (omega arith)) (and-mask (c .args .w) (c .args .half))
 

@@ -4,12 +4,10 @@ use Rattle.mask_edges.specs.Folds.{stores}
 use lib.ListN.{length, length-set}
 use borrow.Author.Needs.{needs}
 use native.Mathlib.Omega.{arith}
-use mathlib.Core.Path.{_≡_, refl, sym, ap, _∙_}
-use Prim.Native.Nat.{ℕ, _+_, _-_, _*_, _≤_, _<_}
+use mathlib.Core.Path.{_≡_, refl}
+use Prim.Native.Nat.{_-_, _≤_}
 use Rattle.mask_edges.proofs.grid.fill_context.Statement.{statement}
 use Rattle.mask_edges.proofs.grid.fill_context.Tie as tie
-use Rattle.mask_edges.proofs.grid.fill_context.Reads as reads
-use Rattle.mask_edges.proofs.grid.fill_context.Lts as lts
 
 abbrev Inv-loop : tie.InvT-loop
 Inv-loop ctx₀ n class v₀ ctx v = (v ≤ n) × (length ctx ≡ length ctx₀) × (ctx ≡ stores v (λ _. class) ctx₀)
@@ -17,31 +15,25 @@ Inv-loop ctx₀ n class v₀ ctx v = (v ≤ n) × (length ctx ≡ length ctx₀)
 abbrev μ-loop : tie.MeasureT-loop
 μ-loop ctx₀ n class v₀ ctx v = n - v
 
--- src/grid.rt:36:5
 loop-holds : tie.Need-loop-holds Inv-loop μ-loop
 loop-holds c = (omega arith, refl, stores-none _ _)
 
--- src/grid.rt:37:9
 slice-write-ctx : tie.Need-slice-write-ctx Inv-loop μ-loop
 slice-write-ctx c = search needs
 
--- src/grid.rt:36:9
 add-v : tie.Need-add-v Inv-loop μ-loop
 add-v c = search needs
 
--- src/grid.rt:36:5
 loop-less : tie.Need-loop-less Inv-loop μ-loop
 loop-less c = search needs
 
--- src/grid.rt:36:5
 loop-again : tie.Need-loop-again Inv-loop μ-loop
-loop-again c = (omega arith, simp length-set (c .before .loop .inv .1), stores-step (λ _. c .before .before .args .class) _ _ _ _ (c .before .loop .inv .2) refl)
+loop-again c =
+    (omega arith, simp length-set (c .before .loop .inv .1), stores-step (λ _. c .before .before .args .class) _ _ _ _ (c .before .loop .inv .2) refl)
 
--- src/grid.rt:32:1
 same-length : tie.Need-same-length Inv-loop μ-loop
 same-length c = search needs
 
--- src/grid.rt:32:1
 returns : tie.Need-returns Inv-loop μ-loop
 returns c =
     let e : c .before .loop .v ≡ c .before .before .args .n = omega arith in
