@@ -1,0 +1,106 @@
+-- The numbers that the code forms of the frame fit, and the masks hold what they name: products of bounds, and records within the frame's.
+use mathlib.Core.Path.{_≡_, sym, ap, _∙_}
+use mathlib.Core.Bool.{Bool, true, false, false≢true}
+use mathlib.Core.List.{List}
+use Prim.Native.Nat.{ℕ, _+_, _-_, _*_, _/_, _^_, _≤_, _<_, min}
+use native.Mathlib.Nat.{add-mul, mul-comm, mul-le-mul-left, mul-le-mul-right, zero-mul, zero-add}
+use native.Mathlib.Omega.{arith}
+use Rattle.loops.proofs.Lists.{prod-le}
+use Rattle.units.specs.Frame.{records}
+use Rattle.units.specs.Units.{chromaUnit}
+use Rattle.gap.specs.declared.walk.Track.{Track}
+use Rattle.gap.specs.Edges.{chromaGrid}
+use Rattle.gap.specs.Fits.{Proper, MasksFit}
+use Rattle.gap.specs.Lines.{recordRow}
+use Rattle.gap.specs.Track.{stepOf, startOf, classWord, startT, partT, track, columnWords, rowWords}
+use Rattle.gap.proofs.Cells.{fewer-units}
+use Rattle.gap.proofs.Shapes.{by-ss, halves, RowLines, row-lines, RowHalves, row-halves}
+use Rattle.gap.proofs.Walks.{part-track}
+
+-- ---- planes
+
+pub proper-chroma : (ss-hor ss-ver w4 h4 : ℕ) → ss-hor ≤ 1 → ss-ver ≤ 1 → Proper (chromaGrid ss-hor ss-ver w4 h4)
+proper-chroma ss-hor ss-ver w4 h4 p q =
+    record { ssx-le = p; ssy-le = q; luma-x = λ e. absurd (false≢true e); luma-y = λ e. absurd (false≢true e) }
+
+-- ---- bounds
+
+pub side-le : (ss : ℕ) → ss ≤ 1 → 32 / 2 ^ ss ≤ 32
+side-le = by-ss (λ ss. 32 / 2 ^ ss ≤ 32) (omega arith) (omega arith)
+
+pub unit-le : (ss n : ℕ) → ss ≤ 1 → chromaUnit ss n ≤ n
+unit-le ss n h = by-ss (λ t. chromaUnit t n ≤ n) (omega arith) (omega arith) ss h
+
+pub rows-le : (ss k sb4 m sb : ℕ) → ss ≤ 1 → k * sb4 < m → sb ≡ chromaUnit ss sb4 → k * sb < m
+rows-le ss k sb4 m sb h l e = rw e (omega (arith, mul-le-mul-left k (unit-le ss sb4 h)))
+
+pub start-in : (luma : Bool) (pass : ℕ) → pass < 2 → startOf luma pass + stepOf luma * 32 ≤ 640
+start-in true pass h = omega arith
+start-in false pass h = omega arith
+
+-- ---- records
+
+module _ (len w4 h4 sb4 k : ℕ) (f : MasksFit len w4 h4 sb4 k) where
+  pub lines-of : (ss : ℕ) → ss ≤ 1 → RowLines ss h4 sb4 k
+  lines-of ss h = row-lines ss h4 sb4 k h (f .size) (f .down)
+
+  pub halves-of : RowHalves h4 sb4 k
+  halves-of = row-halves h4 sb4 k (f .size) (f .down)
+
+  -- the record row of superblock row k
+  pub masks-in : 640 * ((recordRow sb4 k + 1) * records w4) ≤ len
+  masks-in =
+      omega (arith, f .long, mul-le-mul-right (records w4) (halves-of .down), mul-comm (records w4) (records h4), add-mul (recordRow sb4 k) 1 (records w4))
+
+  -- record g of it
+  pub record-in : (g : ℕ) → g < records w4 → 640 * (recordRow sb4 k * records w4 + g) + 640 ≤ len
+  record-in g l = omega (arith, masks-in, add-mul (recordRow sb4 k) 1 (records w4))
+
+-- a record's number, as the code makes it
+module _ (q R l groups : ℕ) (el : l ≡ q) (eg : groups ≡ R) where
+  pub records-small : q < 128 → R ≤ 128 → l * groups ≤ 16256
+  records-small a b = prod-le l groups 127 128 (omega arith) (omega arith)
+
+  -- where a pass starts there
+  pub record-place : (luma : Bool) (pass g at : ℕ) → at ≡ 640 * (l * groups + g) + startOf luma pass → at ≡ 640 * (q * R + g) + startOf luma pass
+  record-place luma pass g at e = e ∙ (λ i. 640 * (el i * eg i + g) + startOf luma pass)
+
+  pub columns-fit : (luma : Bool) (len base : ℕ) → 640 * ((q + 1) * R) ≤ len → base ≡ 640 * (l * groups) + startOf luma 0
+      → base + 640 * groups + stepOf luma * 32 ≤ len + 640
+  columns-fit luma len base h e = rw (e, el, eg) (omega (arith, add-mul q 1 R, start-in luma 0 (omega arith)))
+
+  pub rows-fit : (luma : Bool) (len g at m : ℕ) → 640 * (q * R + g) + 640 ≤ len → at ≡ 640 * (l * groups + g) + startOf luma 1 → m ≤ 32
+      → at + stepOf luma * m ≤ len
+  rows-fit luma len g at m h e lm = fewer-units luma at m 32 len lm (rw (e, el, eg) (omega (arith, start-in luma 1 (omega arith))))
+
+-- ---- the walks
+
+module _ (ms : List ℕ) (luma : Bool) (base ss wide : ℕ) (h : ss ≤ 1) where
+  pub columns-none : (t : Track) → t ≡ startT → t ≡ track (columnWords ms luma base (32 / 2 ^ ss)) wide (0 * (32 / 2 ^ ss))
+  unfolding track
+  columns-none t e = e ∙ ap (track (columnWords ms luma base (32 / 2 ^ ss)) wide) (sym (zero-mul (32 / 2 ^ ss)))
+
+  column-word : (g i c : ℕ) → i < 32 / 2 ^ ss
+      → classWord ms luma (base + 640 * g) (0 + i) c ≡ columnWords ms luma base (32 / 2 ^ ss) (g * (32 / 2 ^ ss) + i) c
+  unfolding columnWords
+  column-word g i c l =
+      let k = halves ss h in
+      let a = sym (k .of-record g i l) in
+      let b = zero-add i ∙ sym (k .in-record g i l) in
+      (λ t. classWord ms luma (base + 640 * a t) (b t) c)
+
+  pub columns-more : (g n : ℕ) (t r : Track) → n ≡ min (32 / 2 ^ ss) (wide - g * (32 / 2 ^ ss))
+      → t ≡ track (columnWords ms luma base (32 / 2 ^ ss)) wide (g * (32 / 2 ^ ss)) → r ≡ partT ms luma (base + 640 * g) 0 n (32 / 2 ^ ss) t
+      → r ≡ track (columnWords ms luma base (32 / 2 ^ ss)) wide ((g + 1) * (32 / 2 ^ ss))
+  columns-more g n t r en et er =
+      part-track (columnWords ms luma base (32 / 2 ^ ss)) wide ms luma (base + 640 * g) 0 (g * (32 / 2 ^ ss)) n (32 / 2 ^ ss) t r en
+      (column-word g) et er
+      ∙ ap (track (columnWords ms luma base (32 / 2 ^ ss)) wide) (omega (arith, add-mul g 1 (32 / 2 ^ ss)))
+
+pub rows-walked : (ms : List ℕ) (luma : Bool) (at from n sb : ℕ) (t r : Track) → n ≤ sb → t ≡ startT → r ≡ partT ms luma at from n sb t
+    → r ≡ track (rowWords ms luma at from) n sb
+unfolding track rowWords
+rows-walked ms luma at from n sb t r l et er =
+    part-track (rowWords ms luma at from) n ms luma at from 0 n sb t r (omega arith)
+    (λ i c _. ap (λ (k : ℕ). classWord ms luma at (from + k) c) (sym (zero-add i))) et er
+    ∙ ap (track (rowWords ms luma at from) n) (zero-add sb)

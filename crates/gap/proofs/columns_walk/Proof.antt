@@ -1,0 +1,79 @@
+-- `columns_walk` meets its contract: after g records the state is that of their units.
+use mathlib.Core.Path.{_≡_}
+use Prim.Native.Nat.{_+_, _-_, _*_, _/_, _^_, _≤_}
+use native.Mathlib.Omega.{arith}
+use borrow.Author.Needs.{needs}
+use Rattle.gap.specs.Track.{track, columnWords}
+use Rattle.gap.proofs.Cells.{fewer-units}
+use Rattle.gap.proofs.Frames.{side-le, columns-none, columns-more}
+use Rattle.gap.proofs.columns_walk.Statement.{statement}
+use Rattle.gap.proofs.columns_walk.Tie as tie
+
+abbrev Inv-loop : tie.InvT-loop
+Inv-loop masks luma base ss wide groups side t₀ g₀ t g = (g ≤ groups) × (t ≡ track (columnWords masks luma base (32 / 2 ^ ss)) wide (g * (32 / 2 ^ ss)))
+
+abbrev μ-loop : tie.MeasureT-loop
+μ-loop masks luma base ss wide groups side t₀ g₀ t g = groups - g
+
+shr-side : tie.Need-shr-side Inv-loop μ-loop
+shr-side c = search needs
+
+start-requires : tie.Need-start-requires Inv-loop μ-loop
+start-requires c κs = search needs
+
+loop-holds : tie.Need-loop-holds Inv-loop μ-loop
+loop-holds c =
+    let a = c .before .before .args in
+    (omega arith, columns-none (a .masks .now) (a .luma) (a .base) (a .ss) (a .wide) (omega arith) _ (c .start .ensures))
+
+in-record-requires : tie.Need-in-record-requires Inv-loop μ-loop
+in-record-requires c κs = (side-le (c .before .before .before .before .args .ss) (omega arith), omega arith)
+
+mul-part : tie.Need-mul-part Inv-loop μ-loop
+mul-part c = search needs
+
+add-part : tie.Need-add-part Inv-loop μ-loop
+add-part c = search needs
+
+part-requires : tie.Need-part-requires Inv-loop μ-loop
+part-requires c κs =
+    let a = c .before .before .before .before .before .args in (
+      fewer-units (a .luma) (a .base + 640 * c .before .before .loop .g) _ 32 _ (omega (arith, side-le (a .ss) (omega arith))) (omega arith),
+      omega
+          (arith, c .in-record .ensures),
+    )
+
+add-g : tie.Need-add-g Inv-loop μ-loop
+add-g c = search needs
+
+loop-less : tie.Need-loop-less Inv-loop μ-loop
+loop-less c = search needs
+
+loop-again : tie.Need-loop-again Inv-loop μ-loop
+loop-again c =
+    let a = c .before .before .before .before .before .before .args in (
+      omega arith,
+      columns-more (a .masks .now) (a .luma) (a .base) (a .ss) (a .wide) (omega arith) (c .before .before .before .loop .g) _ _ _
+          (c .before .in-record .ensures) (c .before .before .before .loop .inv .1) (c .part .ensures),
+    )
+
+returns : tie.Need-returns Inv-loop μ-loop
+returns c = let e : c .before .loop .g ≡ c .before .before .before .before .args .groups = omega arith in rw (← e) (c .before .loop .inv .1)
+
+pub columns-walk-spec : {M : Type 1} → statement M
+columns-walk-spec =
+    tie.close
+    (tie.spec
+    Inv-loop
+    μ-loop
+    shr-side
+    start-requires
+    loop-holds
+    in-record-requires
+    mul-part
+    add-part
+    part-requires
+    add-g
+    loop-less
+    loop-again
+    returns)

@@ -1,0 +1,45 @@
+-- `record_lines` meets its contract: the lines of one record.
+use mathlib.Core.Path.{ap, _∙_}
+use Prim.Native.Nat.{ℕ, _/_, _^_}
+use native.Mathlib.Omega.{arith}
+use borrow.Author.Needs.{needs}
+use Rattle.gap.specs.Lines.{lineWord, inRecord}
+use Rattle.gap.proofs.Shapes.{halves}
+use Rattle.gap.proofs.Frames.{side-le}
+use Rattle.gap.proofs.record_lines.Statement.{statement}
+use Rattle.gap.proofs.record_lines.Tie as tie
+
+chroma-units-requires : tie.Need-chroma-units-requires
+chroma-units-requires c κs = search needs
+
+shr-in-record : tie.Need-shr-in-record
+shr-in-record c = search needs
+
+in-record-requires : tie.Need-in-record-requires
+in-record-requires c κs = (side-le (c .before .args .ss) (omega arith), omega arith)
+
+shr-line-word : tie.Need-shr-line-word
+shr-line-word c = search needs
+
+line-word-requires : tie.Need-line-word-requires
+line-word-requires c κs =
+    let k = halves (c .before .before .args .ss) (omega arith) in
+    (k .most, omega arith, omega (arith, c .in-record .ensures, k .two))
+
+returns : tie.Need-returns
+returns c =
+    let a = c .before .before .before .args in
+    c .line-word .ensures
+    ∙ ap (lineWord (16 / 2 ^ a .ss) 0) (c .before .in-record .ensures ∙ ap (λ (n : ℕ). inRecord (32 / 2 ^ a .ss) n (a .g))
+    (c .before .before .chroma-units .ensures))
+
+pub record-lines-spec : {M : Type 1} → statement M
+record-lines-spec =
+    tie.close
+    (tie.spec
+    chroma-units-requires
+    shr-in-record
+    in-record-requires
+    shr-line-word
+    line-word-requires
+    returns)

@@ -1,0 +1,235 @@
+// Numbers 11 and 12: what may be filtered, 32 lines of units at once.
+pub mod lines;
+pub mod walk;
+
+use units::LumaUnit;
+use walk::Track;
+ghost use mathlib.Core.Path.{_≡_};
+ghost use mathlib.Core.Logic.{_⊎_};
+ghost use Prim.Native.Nat.{_+_, _*_, _/_, _%_, _^_, _≤_, _<_};
+ghost use lib.ListN.{length};
+ghost use Rattle.plane.specs.Line.{columns, rows};
+ghost use Rattle.units.specs.Frame.{records};
+ghost use Rattle.gap.specs.Edges.{gridOf, lumaGrid, chromaGrid};
+ghost use Rattle.gap.specs.Fits.{Proper, MasksFit};
+ghost use Rattle.gap.specs.Lines.{recordRow, rowLines, rowHalves, recordLines};
+ghost use Rattle.gap.specs.Numbers.{Found, RecordFound};
+ghost use Rattle.gap.specs.Promises.{Promises};
+ghost use Rattle.gap.specs.Track.{stepOf, track, columnWords, columnTrack, rowTrack, Answers};
+
+// Numbers 11 and 12.
+pub struct Both {
+    pub gap: bool,
+    pub out: bool,
+}
+
+fn answer(t: Track, row: u32, live: u32) -> Both
+    ensures { λ r. ⌜ Answers t row live r ⌝ }
+{
+    let all = t.all;
+    let past = t.past;
+    let out = (all & (row & !live) | past & row) != 0;
+    let gap = live & walk::close(t) != 0;
+    Both { gap, out }
+}
+
+// The walk along `groups` records from `base` on, of a plane that has `wide` units.
+fn columns_walk(
+    masks: &[u16],
+    luma: bool,
+    base: usize,
+    ss: usize,
+    wide: usize,
+    groups: usize,
+) -> Track
+    requires { ⌜ (base + 640 * groups + stepOf luma * 32 ≤ length (now masks) + 640) × (ss ≤ 1) × (groups ≤ 128) ⌝ }
+    ensures { λ r. ⌜ r ≡ track (columnWords (now (masks .entry)) luma base (32 / 2 ^ ss)) wide (groups * (32 / 2 ^ ss)) ⌝ }
+{
+    let side = 32 >> ss;
+    let mut t = walk::start();
+    for g in 0..groups {
+        let n = lines::in_record(side, wide, g);
+        t = walk::part(masks, luma, base + 640 * g, 0, n, side, t);
+    }
+    t
+}
+
+// The walk along the record row of superblock row k.
+fn columns_track(
+    masks: &[u16],
+    luma: bool,
+    ss: usize,
+    w4: LumaUnit,
+    sb4: LumaUnit,
+    k: usize,
+) -> Track
+    requires { ⌜ (640 * ((recordRow (sb4 .0) k + 1) * records (w4 .0)) ≤ length (now masks)) × (k * sb4 .0 < 4096) × (ss ≤ 1) × (w4 .0 ≤ 4096) ⌝ }
+    ensures { λ r. ⌜ r ≡ columnTrack (now (masks .entry)) luma ss (w4 .0) (sb4 .0) k ⌝ }
+{
+    let groups = units::frame::records_along(w4);
+    let wide = units::chroma_units(w4, ss);
+    let base = walk::record_start(luma, 0, lines::record_row(sb4, k) * groups);
+    columns_walk(masks, luma, base, ss, wide.0, groups)
+}
+
+// The bits of the lines of superblock row k.
+fn row_lines(ss: usize, h4: LumaUnit, sb4: LumaUnit, k: usize) -> u32
+    requires { ⌜ (ss ≤ 1) × (h4 .0 ≤ 4096) × (k * sb4 .0 < h4 .0) × ((sb4 .0 ≡ 16) ⊎ (sb4 .0 ≡ 32)) ⌝ }
+    ensures { λ r. ⌜ r ≡ rowLines ss (h4 .0) (sb4 .0) k ⌝ }
+{
+    let first = lines::first_line(ss, sb4, k);
+    let n = lines::row_units(ss, h4, sb4, k);
+    lines::line_word(16 >> ss, first, first + n)
+}
+
+// The bits of its halves.
+fn row_halves(sb4: LumaUnit, k: usize) -> u32
+    requires { ⌜ (k * sb4 .0 < 4096) × (k * sb4 .0 % 32 + sb4 .0 ≤ 32) ⌝ }
+    ensures { λ r. ⌜ r ≡ rowHalves (sb4 .0) k ⌝ }
+{
+    let s = k * sb4.0 % 32;
+    lines::line_word(16, s, s + sb4.0)
+}
+
+fn columns(
+    masks: &[u16],
+    luma: bool,
+    ssx: usize,
+    ssy: usize,
+    w4: LumaUnit,
+    h4: LumaUnit,
+    sb4: LumaUnit,
+    k: usize,
+) -> Both
+    requires { ⌜ MasksFit (length (now masks)) (w4 .0) (h4 .0) (sb4 .0) k × Proper (gridOf luma ssx ssy (w4 .0) (h4 .0)) ⌝ }
+    ensures { λ r. ⌜ Found (gridOf luma ssx ssy (w4 .0) (h4 .0)) (now (masks .entry)) columns (sb4 .0) k r ⌝ }
+{
+    let t = columns_track(masks, luma, ssx, w4, sb4, k);
+    let live = row_lines(ssy, h4, sb4, k);
+    let row = row_halves(sb4, k);
+    answer(t, row, live)
+}
+
+// The walk down superblock row k in record g.
+fn rows_track(
+    masks: &[u16],
+    luma: bool,
+    ss: usize,
+    w4: LumaUnit,
+    h4: LumaUnit,
+    sb4: LumaUnit,
+    k: usize,
+    g: usize,
+) -> Track
+    requires { ⌜ MasksFit (length (now masks)) (w4 .0) (h4 .0) (sb4 .0) k × (ss ≤ 1) × (g < records (w4 .0)) ⌝ }
+    ensures { λ r. ⌜ r ≡ rowTrack (now (masks .entry)) luma ss (w4 .0) (h4 .0) (sb4 .0) k g ⌝ }
+{
+    let groups = units::frame::records_along(w4);
+    let at = walk::record_start(luma, 1, lines::record_row(sb4, k) * groups + g);
+    let first = lines::first_line(ss, sb4, k);
+    let n = lines::row_units(ss, h4, sb4, k);
+    let sb = units::chroma_unit(sb4, ss);
+    walk::part(masks, luma, at, first, n, sb.0, walk::start())
+}
+
+// The bits of the lines of record g.
+fn record_lines(ss: usize, w4: LumaUnit, g: usize) -> u32
+    requires { ⌜ (ss ≤ 1) × (w4 .0 ≤ 4096) × (g < records (w4 .0)) ⌝ }
+    ensures { λ r. ⌜ r ≡ recordLines ss (w4 .0) g ⌝ }
+{
+    let wide = units::chroma_units(w4, ss);
+    let n = lines::in_record(32 >> ss, wide.0, g);
+    lines::line_word(16 >> ss, 0, n)
+}
+
+fn rows_record(
+    masks: &[u16],
+    luma: bool,
+    ssx: usize,
+    ssy: usize,
+    w4: LumaUnit,
+    h4: LumaUnit,
+    sb4: LumaUnit,
+    k: usize,
+    g: usize,
+) -> Both
+    requires { ⌜ MasksFit (length (now masks)) (w4 .0) (h4 .0) (sb4 .0) k × Proper (gridOf luma ssx ssy (w4 .0) (h4 .0)) × (g < records (w4 .0)) ⌝ }
+    ensures { λ r. ⌜ RecordFound (gridOf luma ssx ssy (w4 .0) (h4 .0)) (now (masks .entry)) (sb4 .0) k g r ⌝ }
+{
+    let t = rows_track(masks, luma, ssy, w4, h4, sb4, k, g);
+    let live = record_lines(ssx, w4, g);
+    answer(t, 4294967295, live)
+}
+
+fn rows(
+    masks: &[u16],
+    luma: bool,
+    ssx: usize,
+    ssy: usize,
+    w4: LumaUnit,
+    h4: LumaUnit,
+    sb4: LumaUnit,
+    k: usize,
+) -> Both
+    requires { ⌜ MasksFit (length (now masks)) (w4 .0) (h4 .0) (sb4 .0) k × Proper (gridOf luma ssx ssy (w4 .0) (h4 .0)) ⌝ }
+    ensures { λ r. ⌜ Found (gridOf luma ssx ssy (w4 .0) (h4 .0)) (now (masks .entry)) rows (sb4 .0) k r ⌝ }
+{
+    let groups = units::frame::records_along(w4);
+    let mut gap = false;
+    let mut out = false;
+    for g in 0..groups {
+        let r = rows_record(masks, luma, ssx, ssy, w4, h4, sb4, k, g);
+        gap = gap | r.gap;
+        out = out | r.out;
+    }
+    Both { gap, out }
+}
+
+pub fn luma_columns(masks: &[u16], w4: LumaUnit, h4: LumaUnit, sb4: LumaUnit, k: usize) -> Both
+    requires { ⌜ MasksFit (length (now masks)) (w4 .0) (h4 .0) (sb4 .0) k ⌝ }
+    ensures { λ r. ⌜ Found (lumaGrid (w4 .0) (h4 .0)) (now (masks .entry)) columns (sb4 .0) k r ⌝ }
+{
+    columns(masks, true, 0, 0, w4, h4, sb4, k)
+}
+
+pub fn luma_rows(masks: &[u16], w4: LumaUnit, h4: LumaUnit, sb4: LumaUnit, k: usize) -> Both
+    requires { ⌜ MasksFit (length (now masks)) (w4 .0) (h4 .0) (sb4 .0) k ⌝ }
+    ensures { λ r. ⌜ Found (lumaGrid (w4 .0) (h4 .0)) (now (masks .entry)) rows (sb4 .0) k r ⌝ }
+{
+    rows(masks, true, 0, 0, w4, h4, sb4, k)
+}
+
+pub fn chroma_columns(
+    masks: &[u16],
+    w4: LumaUnit,
+    h4: LumaUnit,
+    ss_hor: usize,
+    ss_ver: usize,
+    sb4: LumaUnit,
+    k: usize,
+) -> Both
+    requires { ⌜ MasksFit (length (now masks)) (w4 .0) (h4 .0) (sb4 .0) k × («ss_hor» ≤ 1) × («ss_ver» ≤ 1) ⌝ }
+    ensures { λ r. ⌜ Found (chromaGrid «ss_hor» «ss_ver» (w4 .0) (h4 .0)) (now (masks .entry)) columns (sb4 .0) k r ⌝ }
+{
+    columns(masks, false, ss_hor, ss_ver, w4, h4, sb4, k)
+}
+
+pub fn chroma_rows(
+    masks: &[u16],
+    w4: LumaUnit,
+    h4: LumaUnit,
+    ss_hor: usize,
+    ss_ver: usize,
+    sb4: LumaUnit,
+    k: usize,
+) -> Both
+    requires { ⌜ MasksFit (length (now masks)) (w4 .0) (h4 .0) (sb4 .0) k × («ss_hor» ≤ 1) × («ss_ver» ≤ 1) ⌝ }
+    ensures { λ r. ⌜ Found (chromaGrid «ss_hor» «ss_ver» (w4 .0) (h4 .0)) (now (masks .entry)) rows (sb4 .0) k r ⌝ }
+{
+    rows(masks, false, ss_hor, ss_ver, w4, h4, sb4, k)
+}
+
+// What the numbers mean.
+pub fn promised()
+    ensures { λ _. ⌜ Promises ⌝ }
+{}

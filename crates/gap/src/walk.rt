@@ -1,0 +1,154 @@
+// The walk along the units of a line, for 32 lines at once.
+ghost use mathlib.Core.Path.{_≡_};
+ghost use mathlib.Core.Bool.{cond};
+ghost use Prim.Native.Nat.{_+_, _*_, _<_, _≤_};
+ghost use lib.ListN.{length};
+ghost use Rattle.gap.specs.Track.{wordAt, stepOf, startOf, classWord, clashW, startT, stepT, unitT, runT, partT, closeT};
+
+// Marks, class 1 or more and class 2 of the last three units, and what was found: the lines that break the rule, the edges, and the bits
+// past the frame.
+pub struct Track {
+    pub first: u32,
+    pub m1: u32,
+    pub m2: u32,
+    pub m3: u32,
+    pub a1: u32,
+    pub b1: u32,
+    pub b2: u32,
+    pub b3: u32,
+    pub bad: u32,
+    pub all: u32,
+    pub past: u32,
+}
+
+pub fn start() -> Track
+    ensures { λ r. ⌜ r ≡ startT ⌝ }
+{
+    Track {
+        first: 4294967295,
+        m1: 0,
+        m2: 0,
+        m3: 0,
+        a1: 0,
+        b1: 0,
+        b2: 0,
+        b3: 0,
+        bad: 0,
+        all: 0,
+        past: 0,
+    }
+}
+
+// The lines on which the unit with marks m, class 1 or more a, class 2 b breaks the rule with one of the three units before.
+fn clash(m: u32, a: u32, b: u32, m1: u32, m2: u32, m3: u32, a1: u32, b2: u32, b3: u32) -> u32
+    ensures { λ r. ⌜ r ≡ clashW m a b m1 m2 m3 a1 b2 b3 ⌝ }
+{
+    m & (a1 | b2 | b3) | m1 & a | (m2 | m3) & b
+}
+
+fn step(s: Track, x: u32, y: u32, b: u32, z: u32) -> Track
+    ensures { λ r. ⌜ r ≡ stepT s x y b z ⌝ }
+{
+    let a = y | b;
+    let e = x | a;
+    let m = s.first | e;
+    let r = clash(m, a, b, s.m1, s.m2, s.m3, s.a1, s.b2, s.b3);
+    Track {
+        first: 0,
+        m1: m,
+        m2: s.m1,
+        m3: s.m2,
+        a1: a,
+        b1: b,
+        b2: s.b1,
+        b3: s.b2,
+        bad: s.bad | r,
+        all: s.all | e,
+        past: s.past | z,
+    }
+}
+
+// A unit past the frame has no edge.
+fn unit(inside: bool, s: Track, x: u32, y: u32, b: u32) -> Track
+    ensures { λ r. ⌜ r ≡ unitT inside s x y b ⌝ }
+{
+    if inside {
+        return step(s, x, y, b, 0);
+    }
+    step(s, 0, 0, 0, x | (y | b))
+}
+
+fn word(masks: &[u16], at: usize) -> u32
+    requires { ⌜ at + 1 < length (now masks) ⌝ }
+    ensures { λ r. ⌜ r ≡ wordAt (now (masks .entry)) at ⌝ }
+{
+    bits::word(masks[at], masks[at + 1])
+}
+
+fn class_word(masks: &[u16], luma: bool, at: usize, i: usize, c: usize) -> u32
+    requires { ⌜ (at + stepOf luma * i + stepOf luma ≤ length (now masks)) × (c < 3) ⌝ }
+    ensures { λ r. ⌜ r ≡ classWord (now (masks .entry)) luma at i c ⌝ }
+{
+    if luma {
+        return word(masks, at + 6 * i + 2 * c);
+    }
+    if c < 2 {
+        return word(masks, at + 4 * i + 2 * c);
+    }
+    0
+}
+
+fn chunk(
+    masks: &[u16],
+    luma: bool,
+    inside: bool,
+    at: usize,
+    from: usize,
+    m: usize,
+    s: Track,
+) -> Track
+    requires { ⌜ at + stepOf luma * (from + m) ≤ length (now masks) ⌝ }
+    ensures { λ r. ⌜ r ≡ runT (now (masks .entry)) luma inside at from m s ⌝ }
+{
+    let mut t = s;
+    for i in 0..m {
+        let x = class_word(masks, luma, at, from + i, 0);
+        let y = class_word(masks, luma, at, from + i, 1);
+        let b = class_word(masks, luma, at, from + i, 2);
+        t = unit(inside, t, x, y, b);
+    }
+    t
+}
+
+pub fn part(
+    masks: &[u16],
+    luma: bool,
+    at: usize,
+    from: usize,
+    n: usize,
+    end: usize,
+    s: Track,
+) -> Track
+    requires { ⌜ (at + stepOf luma * (from + end) ≤ length (now masks)) × (n ≤ end) ⌝ }
+    ensures { λ r. ⌜ r ≡ partT (now (masks .entry)) luma at from n end s ⌝ }
+{
+    let t = chunk(masks, luma, true, at, from, n, s);
+    chunk(masks, luma, false, at, from + n, end - n, t)
+}
+
+pub fn close(s: Track) -> u32
+    ensures { λ r. ⌜ r ≡ closeT s ⌝ }
+{
+    s.bad | clash(4294967295, 0, 0, s.m1, s.m2, s.m3, s.a1, s.b2, s.b3)
+}
+
+// Where the units of a pass start in a record of the frame.
+pub fn record_start(luma: bool, pass: usize, number: usize) -> usize
+    requires { ⌜ (pass < 2) × (number ≤ 16384) ⌝ }
+    ensures { λ r. ⌜ r ≡ 640 * number + startOf luma pass ⌝ }
+{
+    if luma {
+        return 640 * number + 192 * pass;
+    }
+    640 * number + (384 + 128 * pass)
+}

@@ -1,0 +1,5 @@
+pub mod Rows
+pub mod Frames
+pub mod Levels
+pub mod Samples
+pub mod Told
