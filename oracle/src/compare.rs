@@ -9,6 +9,9 @@ use std::time::{Duration, Instant};
 /// How long a program may be silent before it is ended.
 const PATIENCE: Duration = Duration::from_secs(60);
 
+/// How many bytes go through a pipe at once.
+pub const BATCH: usize = 1 << 16;
+
 /// A run: some cases of a part.
 #[derive(Clone, Copy)]
 struct Run<'a> {
@@ -60,7 +63,7 @@ pub fn compare(part: &dyn Part, count: Count, seed: u64, program: &[String]) -> 
     tally.print();
     let empty = tally.nearly_empty();
     if !empty.is_empty() {
-        return Err(format!("nearly empty, below 1 %: {}", empty.join("; ")));
+        return Err(format!("nearly empty: {}", empty.join("; ")));
     }
     println!("{} cases, 0 differ", tally.cases());
     Ok(())
@@ -68,7 +71,7 @@ pub fn compare(part: &dyn Part, count: Count, seed: u64, program: &[String]) -> 
 
 impl Run<'_> {
     fn feed(self, to: ChildStdin) -> io::Result<()> {
-        let mut to = BufWriter::new(to);
+        let mut to = BufWriter::with_capacity(BATCH, to);
         for case in self.part.cases(self.count, self.seed) {
             to.write_all(&case)?;
         }
@@ -77,7 +80,7 @@ impl Run<'_> {
 
     fn hold(self, from: ChildStdout, progress: Sender<u64>) -> Result<Tally, String> {
         let part = self.part;
-        let mut from = BufReader::new(from);
+        let mut from = BufReader::with_capacity(BATCH, from);
         let mut tally = Tally::new(part);
         let mut theirs = vec![0; part.sizes().1];
         for case in part.cases(self.count, self.seed) {

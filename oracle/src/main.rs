@@ -17,6 +17,7 @@ mod rav1d;
 mod rng;
 mod tally;
 
+use compare::BATCH;
 use part::{Count, Part};
 #[allow(unused_imports)]
 use rav1d::{crates::*, include, src};
@@ -73,7 +74,7 @@ fn number(part: &dyn Part, count: &str) -> Option<Count> {
 }
 
 fn write(records: impl IntoIterator<Item = part::Record>) -> io::Result<()> {
-    let mut out = BufWriter::new(io::stdout().lock());
+    let mut out = BufWriter::with_capacity(BATCH, io::stdout().lock());
     for record in records {
         out.write_all(&record)?;
     }
@@ -81,8 +82,8 @@ fn write(records: impl IntoIterator<Item = part::Record>) -> io::Result<()> {
 }
 
 fn answers(part: &dyn Part) -> io::Result<()> {
-    let mut cases = BufReader::new(io::stdin().lock());
-    let mut out = BufWriter::new(io::stdout().lock());
+    let mut cases = BufReader::with_capacity(BATCH, io::stdin().lock());
+    let mut out = BufWriter::with_capacity(BATCH, io::stdout().lock());
     let mut case = vec![0; part.sizes().0];
     loop {
         match cases.read(&mut case[..1])? {

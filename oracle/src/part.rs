@@ -7,8 +7,15 @@ pub type Record = Vec<u8>;
 pub struct Group {
     pub name: &'static str,
     pub cells: &'static [&'static str],
-    /// Whether a run fails if a cell holds less than 1 % of the cases.
-    pub is_filled: bool,
+    pub least: Least,
+}
+
+/// What each cell of a group must hold, or a run fails.
+#[derive(Clone, Copy)]
+pub enum Least {
+    Nothing,
+    OneCase,
+    Percent,
 }
 
 impl Group {
@@ -16,7 +23,16 @@ impl Group {
         Self {
             name,
             cells,
-            is_filled: true,
+            least: Least::Percent,
+        }
+    }
+
+    /// For many cells.
+    pub const fn not_empty(name: &'static str, cells: &'static [&'static str]) -> Self {
+        Self {
+            name,
+            cells,
+            least: Least::OneCase,
         }
     }
 
@@ -24,7 +40,7 @@ impl Group {
         Self {
             name,
             cells,
-            is_filled: false,
+            least: Least::Nothing,
         }
     }
 }

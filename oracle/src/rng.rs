@@ -24,6 +24,12 @@ impl Rng {
         from[self.range(0, from.len() as i32 - 1) as usize]
     }
 
+    pub fn fill(&mut self, bytes: &mut [u8]) {
+        for chunk in bytes.chunks_mut(8) {
+            chunk.copy_from_slice(&self.next().to_le_bytes()[..chunk.len()]);
+        }
+    }
+
     /// True once in `n`.
     pub fn once_in(&mut self, n: i32) -> bool {
         self.range(1, n) == 1

@@ -1,4 +1,4 @@
-use crate::part::{Group, Part};
+use crate::part::{Group, Least, Part};
 
 /// How many cases fell into each cell of each group.
 pub struct Tally {
@@ -39,13 +39,17 @@ impl Tally {
         }
     }
 
-    /// The cells that are to be filled and hold less than 1 % of the cases.
+    /// The cells that hold too little.
     pub fn nearly_empty(&self) -> Vec<String> {
         let groups = self.groups.iter().zip(&self.counts);
-        let groups = groups.filter(|(group, _)| group.is_filled);
         let cells = groups.flat_map(|(group, counts)| {
+            let least = match group.least {
+                Least::Nothing => 0,
+                Least::OneCase => 1,
+                Least::Percent => self.cases.div_ceil(100),
+            };
             let cells = group.cells.iter().zip(counts);
-            let few = cells.filter(|(_, n)| **n * 100 < self.cases);
+            let few = cells.filter(move |(_, n)| **n < least);
             few.map(|(cell, _)| format!("{}: {cell}", group.name))
         });
         cells.collect()

@@ -57,6 +57,14 @@ pub fn u8s_at(b: &[u8], at: usize, out: &mut [u8])
     }
 }
 
+pub fn u16s_at(b: &[u8], at: usize, out: &mut [u16])
+    requires { ⌜ at + 2 * length (now out) ≤ length (now b) ⌝ }
+{
+    for k in 0..out.len() {
+        out[k] = u16_at(b, at + 2 * k);
+    }
+}
+
 pub fn put_u16(out: &mut [u8], at: usize, v: u16)
     requires { ⌜ at + 2 ≤ length (now out) ⌝ }
 {
@@ -71,5 +79,13 @@ pub fn put_u64(out: &mut [u8], at: usize, v: u64)
     for k in 0..8 {
         out[at + k] = (rest % 256) as u8;
         rest = rest / 256;
+    }
+}
+
+pub fn put_u16s(out: &mut [u8], at: usize, words: &[u16])
+    requires { ⌜ at + 2 * length (now words) ≤ length (now out) ⌝ }
+{
+    for k in 0..words.len() {
+        put_u16(out, at + 2 * k, words[k]);
     }
 }

@@ -1,7 +1,13 @@
 mod levels;
 mod limits;
 mod line;
+mod record;
 
 use crate::part::Part;
 
-pub const PARTS: [&dyn Part; 3] = [&limits::Limits, &levels::Levels, &line::Line];
+pub const PARTS: [&dyn Part; 4] = [
+    &limits::Limits,
+    &levels::Levels,
+    &line::Line,
+    &record::Recording,
+];

@@ -1,0 +1,3 @@
+pub mod Passed
+pub mod Free
+pub mod Numbers

@@ -1,0 +1,103 @@
+// A block to record: its visible size in luma and chroma units, and the number that refuses it.
+pub mod number;
+mod tests;
+
+use units::ChromaUnit;
+use units::LumaUnit;
+use units::Sample;
+use units::chroma_unit;
+use units::chroma_units;
+use units::layout::ss_hor;
+use units::layout::ss_ver;
+use units::luma_units;
+use units::sizes::block_high;
+use units::sizes::block_wide;
+ghost use mathlib.Core.Path.{_≡_};
+ghost use Prim.Native.Nat.{_≤_, min};
+ghost use Rattle.block.specs.Block.{w4, h4, bw4, bh4, chromaSide, cbw4, cbh4, seesLuma, seesChroma, Sides};
+
+// The frame, the block's place, codes and chroma pair; of an intra block skip, reference and mode are 0.
+pub struct Block {
+    pub width: Sample,
+    pub height: Sample,
+    pub layout: usize,
+    pub x: LumaUnit,
+    pub y: LumaUnit,
+    pub size: usize,
+    pub tx: usize,
+    pub chroma: bool,
+    pub uvtx: usize,
+    pub inter: bool,
+    pub skip: bool,
+    pub reference: usize,
+    pub mode: usize,
+}
+
+fn least(a: usize, b: usize) -> usize
+    ensures { λ r. ⌜ r ≡ min a b ⌝ }
+{
+    if a <= b { a } else { b }
+}
+
+pub fn luma_wide(b: Block) -> LumaUnit
+    requires { ⌜ Sides b × (b .x .0 ≤ w4 b) ⌝ }
+    ensures { λ r. ⌜ r .0 ≡ bw4 b ⌝ }
+{
+    LumaUnit(least(luma_units(b.width).0 - b.x.0, block_wide(b.size).0))
+}
+
+pub fn luma_high(b: Block) -> LumaUnit
+    requires { ⌜ Sides b × (b .y .0 ≤ h4 b) ⌝ }
+    ensures { λ r. ⌜ r .0 ≡ bh4 b ⌝ }
+{
+    LumaUnit(least(luma_units(b.height).0 - b.y.0, block_high(b.size).0))
+}
+
+// Of w4 or h4 units from the place u on, what a block's side of n units has in the chroma plane.
+fn chroma_side(all: LumaUnit, u: LumaUnit, n: LumaUnit, ss: usize) -> ChromaUnit
+    requires { ⌜ (u .0 ≤ all .0) × (all .0 ≤ 4096) × (n .0 ≤ 32) × (ss ≤ 1) ⌝ }
+    ensures { λ r. ⌜ r .0 ≡ chromaSide (all .0) (u .0) (n .0) ss ⌝ }
+{
+    ChromaUnit(least(
+        chroma_units(all, ss).0 - chroma_unit(u, ss).0,
+        chroma_units(n, ss).0,
+    ))
+}
+
+pub fn chroma_wide(b: Block) -> ChromaUnit
+    requires { ⌜ Sides b × (b .x .0 ≤ w4 b) ⌝ }
+    ensures { λ r. ⌜ r .0 ≡ cbw4 b ⌝ }
+{
+    chroma_side(
+        luma_units(b.width),
+        b.x,
+        block_wide(b.size),
+        ss_hor(b.layout),
+    )
+}
+
+pub fn chroma_high(b: Block) -> ChromaUnit
+    requires { ⌜ Sides b × (b .y .0 ≤ h4 b) ⌝ }
+    ensures { λ r. ⌜ r .0 ≡ cbh4 b ⌝ }
+{
+    chroma_side(
+        luma_units(b.height),
+        b.y,
+        block_high(b.size),
+        ss_ver(b.layout),
+    )
+}
+
+pub fn sees_luma(b: Block) -> bool
+    requires { ⌜ Sides b × (b .x .0 ≤ w4 b) × (b .y .0 ≤ h4 b) ⌝ }
+    ensures { λ r. ⌜ r ≡ seesLuma b ⌝ }
+{
+    (0 < luma_wide(b).0) & (0 < luma_high(b).0)
+}
+
+pub fn sees_chroma(b: Block) -> bool
+    requires { ⌜ Sides b × (b .x .0 ≤ w4 b) × (b .y .0 ≤ h4 b) ⌝ }
+    ensures { λ r. ⌜ r ≡ seesChroma b ⌝ }
+{
+    b.chroma & ((0 < chroma_wide(b).0) & (0 < chroma_high(b).0))
+}

@@ -1,0 +1,61 @@
+// The number of a block: of the tests, in their order, the first that it fails.
+use super::tests::chroma_contexts_bad;
+use super::tests::code_bad;
+use super::tests::length_bad;
+use super::tests::luma_contexts_bad;
+use super::tests::max_tx_bad;
+use super::tests::place_bad;
+use super::tests::reference_bad;
+use super::tests::shape_bad;
+use super::tests::tx_bad;
+use crate::Block;
+use units::numbers::BLOCK;
+use units::numbers::CONTEXT;
+use units::numbers::DONE;
+use units::numbers::LENGTH;
+use units::numbers::SHAPE;
+ghost use mathlib.Core.Path.{_≡_};
+ghost use Rattle.block.specs.Block.{lent};
+ghost use Rattle.block.specs.Tests.{number};
+
+pub fn number(
+    b: Block,
+    stride: usize,
+    levels: &[u8],
+    masks: &[u16],
+    above: &[u8],
+    left: &[u8],
+    above_uv: &[u8],
+    left_uv: &[u8],
+) -> u32
+    ensures { λ r. ⌜ r ≡ number b stride (lent (now (levels .entry)) (now (masks .entry)) (now (above .entry)) (now (left .entry)) (now («above_uv» .entry)) (now («left_uv» .entry))) ⌝ }
+{
+    if shape_bad(b) {
+        return SHAPE;
+    }
+    if code_bad(b) {
+        return BLOCK;
+    }
+    if place_bad(b) {
+        return BLOCK;
+    }
+    if tx_bad(b) {
+        return BLOCK;
+    }
+    if max_tx_bad(b) {
+        return BLOCK;
+    }
+    if reference_bad(b) {
+        return BLOCK;
+    }
+    if luma_contexts_bad(b, above, left) {
+        return CONTEXT;
+    }
+    if chroma_contexts_bad(b, above_uv, left_uv) {
+        return CONTEXT;
+    }
+    if length_bad(b, stride, levels.len(), masks.len()) {
+        return LENGTH;
+    }
+    DONE
+}

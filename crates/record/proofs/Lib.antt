@@ -1,0 +1,3 @@
+pub mod Rooms
+pub mod Stores
+pub mod Sounds

@@ -1,0 +1,113 @@
+use Rattle.record.proofs.Sounds.{sound, reference-in, flag-low, levels-long, masks-long, luma-long, chroma-long}
+use Rattle.record.specs.Record.{interOf, chromaLevels, chromaMasks}
+use Rattle.block.specs.Tests.{number}
+use Rattle.block.specs.Block.{lent}
+use denote.Ref.{now}
+use borrow.Author.Tests.{ne-eqb}
+-- TODO
+use borrow.Author.Needs.{needs}
+use native.Mathlib.Omega.{arith}
+use mathlib.Core.Path.{_≡_, refl, sym, ap, _∙_}
+use Prim.Native.Nat.{ℕ, _+_, _-_, _*_, _≤_, _<_}
+use Rattle.record.proofs.record_inter.Statement.{statement}
+use Rattle.record.proofs.record_inter.Tie as tie
+
+cast-t40 : tie.Need-cast-t40
+cast-t40 c = search needs
+
+number-requires : tie.Need-number-requires
+number-requires c κs = search needs
+
+same-length : tie.Need-same-length
+same-length c = search needs
+
+same-length-2 : tie.Need-same-length-2
+same-length-2 c = search needs
+
+same-length-3 : tie.Need-same-length-3
+same-length-3 c = search needs
+
+same-length-4 : tie.Need-same-length-4
+same-length-4 c = search needs
+
+same-length-5 : tie.Need-same-length-5
+same-length-5 c = search needs
+
+same-length-6 : tie.Need-same-length-6
+same-length-6 c = search needs
+
+returns : tie.Need-returns
+returns c = let z = ne-eqb (c .before .number .result) 0 (c .if1 .taken) in
+    record { code = c .before .number .ensures; levels = rw z refl; masks = rw z refl; above = rw z refl; left = rw z refl; above-uv = rw z refl; left-uv = rw z refl }
+
+inter-luma-requires : tie.Need-inter-luma-requires
+inter-luma-requires c κs = let g = c .before .before .before .before .before .before .before .before .before .before .before .before .before .before .before .before .before .before .args in
+    let b = interOf (g .width) (g .height) (g .layout) (g .x) (g .y) (g .size) (g .tx) (g .chroma) (g .uvtx) (g .skip) (g .reference) (g .mode) in
+    let m = lent (now (g .levels)) (now (g .masks)) (now (g .above)) (now (g .left)) (now (g .above-uv)) (now (g .left-uv)) in
+    let e : number b (g .stride) m ≡ 0 = sym (c .before .before .before .before .before .number .ensures) ∙ c .before .before .before .before .if1 .left in
+    (sound b (g .stride) m e (reference-in b (g .stride) m e refl) (flag-low (g .mode)), levels-long b (g .stride) m e .0, levels-long b (g .stride) m e .1, masks-long b (g .stride) m e, luma-long b (g .stride) m e, refl)
+
+chroma-pair-requires : tie.Need-chroma-pair-requires
+chroma-pair-requires c κs = let g = c .before .before .before .before .before .before .before .before .before .before .before .before .before .before .before .before .before .before .before .before .before .before .before .before .before .before .before .before .before .before .before .args in
+    let b = interOf (g .width) (g .height) (g .layout) (g .x) (g .y) (g .size) (g .tx) (g .chroma) (g .uvtx) (g .skip) (g .reference) (g .mode) in
+    let m = lent (now (g .levels)) (now (g .masks)) (now (g .above)) (now (g .left)) (now (g .above-uv)) (now (g .left-uv)) in
+    let e : number b (g .stride) m ≡ 0 = sym (c .before .before .before .before .before .before .before .before .before .before .before .before .before .before .before .before .before .before .number .ensures) ∙ c .before .before .before .before .before .before .before .before .before .before .before .before .before .before .before .before .before .if1 .left in
+    let k = c .before .before .before .before .before .before .before .before .before .before .before .before .inter-luma .kept in
+    (sound b (g .stride) m e (reference-in b (g .stride) m e refl) (flag-low (g .mode)), levels-long b (g .stride) m e .0, omega (arith, k, levels-long b (g .stride) m e .1), omega (arith, k, masks-long b (g .stride) m e), chroma-long b (g .stride) m e)
+
+same-length-7 : tie.Need-same-length-7
+same-length-7 c = search needs
+
+same-length-8 : tie.Need-same-length-8
+same-length-8 c = search needs
+
+same-length-9 : tie.Need-same-length-9
+same-length-9 c = search needs
+
+same-length-10 : tie.Need-same-length-10
+same-length-10 c = search needs
+
+same-length-11 : tie.Need-same-length-11
+same-length-11 c = search needs
+
+same-length-12 : tie.Need-same-length-12
+same-length-12 c = search needs
+
+returns-2 : tie.Need-returns-2
+returns-2 c = let g = c .before .before .before .before .before .before .before .before .before .before .before .before .before .before .before .before .before .before .before .before .before .before .before .before .before .before .before .before .before .before .before .before .before .before .before .before .before .before .before .before .args in
+    let b = interOf (g .width) (g .height) (g .layout) (g .x) (g .y) (g .size) (g .tx) (g .chroma) (g .uvtx) (g .skip) (g .reference) (g .mode) in
+    let m = lent (now (g .levels)) (now (g .masks)) (now (g .above)) (now (g .left)) (now (g .above-uv)) (now (g .left-uv)) in
+    let p = c .before .before .before .before .before .before .before .before .before .before .before .before .before .before .before .before .before .before .before .before .before .inter-luma .ensures in
+    let q = c .before .before .before .before .before .before .before .before .chroma-pair .ensures in
+    record {
+      code = sym (c .before .before .before .before .before .before .before .before .before .before .before .before .before .before .before .before .before .before .before .before .before .before .before .before .before .before .if1 .left) ∙ c .before .before .before .before .before .before .before .before .before .before .before .before .before .before .before .before .before .before .before .before .before .before .before .before .before .before .before .number .ensures;
+      levels = q .0 ∙ ap (chromaLevels b (g .stride) (now (g .values))) (p .0);
+      masks = q .1 .0 ∙ ap (chromaMasks b (now (g .above-uv)) (now (g .left-uv))) (p .1 .0);
+      above = p .1 .1 .0;
+      left = p .1 .1 .1;
+      above-uv = q .1 .1 .0;
+      left-uv = q .1 .1 .1;
+    }
+
+pub record-inter-spec : {M : Type 1} → statement M
+record-inter-spec =
+    tie.close
+    (tie.spec
+    cast-t40
+    number-requires
+    same-length
+    same-length-2
+    same-length-3
+    same-length-4
+    same-length-5
+    same-length-6
+    returns
+    inter-luma-requires
+    chroma-pair-requires
+    same-length-7
+    same-length-8
+    same-length-9
+    same-length-10
+    same-length-11
+    same-length-12
+    returns-2)

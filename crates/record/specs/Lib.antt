@@ -1,0 +1,2 @@
+-- what recording stores, in the order of the code, and the contract of the two calls
+pub mod Record

@@ -1,0 +1,186 @@
+-- What recording a block stores, in the order of the code, and the contract of `record_intra` and `record_inter`.
+--   intraOf, interOf               the block of a call's arguments
+--   valueOf b values kind          the level value of the block's kind: 0 luma columns, 1 luma rows, 2 U, 3 V
+--   fillRow, fillLevels            two bytes of each of w units, h times: u, and v after it
+--   recordAt b, inRecord a g       where the block's record of masks stands; the masks with g made of the 640 words at a
+--   cbx4, cby4                     the chroma place of the block in its record
+--   lumaColumns, lumaRows, chromaColumns, chromaRows     the passes over the block
+--   lumaLevels, chromaLevels       the level bytes, in a plane in which units are recorded
+--   intraMasks, interMasks, lumaMasks, chromaMasks       the masks
+--   lumaAbove, lumaLeft, chromaAbove, chromaLeft         the contexts
+--   RecordAnswer                   number and memory after a call; tm are the tx_masks of an inter block
+--   Sound b                        what the work behind the number asks of a block
+use mathlib.Core.Bool.{Bool, true, false, cond, not}
+use mathlib.Core.List.{List, _++_}
+use mathlib.Core.Logic.{_⊎_}
+use mathlib.Core.Path.{_≡_}
+use Prim.Native.Nat.{ℕ, _+_, _-_, _*_, _%_, _<_, _≤_}
+use lib.Dec.{eqb}
+use mir.Val.{boolByte}
+use lib.ListN.{getD, set, take, drop}
+use Rattle.loops.specs.Run.{upTo}
+use Rattle.standard.specs.Sizes.{Tx_Wide, Tx_High, Max_Tx_Size_Rect}
+use Rattle.units.specs.Units.{chromaUnit}
+use Rattle.units.specs.Frame.{recordOf}
+use Rattle.units.specs.Memory.{levelAt, halfUnits}
+use Rattle.units.specs.Sizes.{lumaClass, chromaClass}
+use Rattle.mask_edges.specs.declared.edge.Pass.{Pass}
+use Rattle.mask_edges.specs.Folds.{columnsOf, rowsOf, gridMasks, cellMasks, stores, classIn, tables}
+use Rattle.block.specs.declared.Block.{Block}
+use Rattle.block.specs.Block.{w4, h4, wide, high, ssx, ssy, bw4, bh4, cbw4, cbh4, seesLuma, seesChroma, Lent, Sides}
+use Rattle.block.specs.Tests.{number}
+
+-- a flag of a call
+abbrev pub on : ℕ → Bool
+on n = not (eqb n 0)
+
+abbrev pub intraOf : ℕ → ℕ → ℕ → ℕ → ℕ → ℕ → ℕ → ℕ → ℕ → Block
+intraOf width height layout x y size tx chroma uvtx =
+    record {
+      width = record { 0 = width };
+      height = record { 0 = height };
+      layout = layout;
+      x = record { 0 = x };
+      y = record { 0 = y };
+      size = size;
+      tx = tx;
+      chroma = on chroma;
+      uvtx = uvtx;
+      inter = false;
+      skip = false;
+      reference = 0;
+      mode = 0;
+    }
+
+abbrev pub interOf : ℕ → ℕ → ℕ → ℕ → ℕ → ℕ → ℕ → ℕ → ℕ → ℕ → ℕ → ℕ → Block
+interOf width height layout x y size tx chroma uvtx skip reference mode =
+    record {
+      width = record { 0 = width };
+      height = record { 0 = height };
+      layout = layout;
+      x = record { 0 = x };
+      y = record { 0 = y };
+      size = size;
+      tx = tx;
+      chroma = on chroma;
+      uvtx = uvtx;
+      inter = true;
+      skip = on skip;
+      reference = reference;
+      mode = boolByte (on mode);
+    }
+
+abbrev pub valueOf : Block → List ℕ → ℕ → ℕ
+valueOf b values kind = getD values ((kind * 8 + b .reference) * 2 + b .mode) 0
+
+unfoldable pub fillRow : ℕ → ℕ → ℕ → ℕ → List ℕ → List ℕ
+fillRow at w u v = upTo (λ i l. set (set l (at + 4 * i) u) (at + 4 * i + 1) v) w
+
+unfoldable pub fillLevels : ℕ → ℕ → ℕ → ℕ → ℕ → ℕ → List ℕ → List ℕ
+fillLevels at stride w h u v = upTo (λ j. fillRow (at + 4 * (j * stride)) w u v) h
+
+abbrev pub recordAt : Block → ℕ
+recordAt b = 640 * recordOf (w4 b) (b .x .0) (b .y .0)
+
+unfoldable pub inRecord : ℕ → (List ℕ → List ℕ) → List ℕ → List ℕ
+inRecord a g ms = take a ms ++ (g (take 640 (drop a ms)) ++ drop (a + 640) ms)
+
+abbrev pub cbx4 : Block → ℕ
+cbx4 b = chromaUnit (ssx b) (b .x .0 % 32)
+
+abbrev pub cby4 : Block → ℕ
+cby4 b = chromaUnit (ssy b) (b .y .0 % 32)
+
+abbrev pub lumaColumns : Block → Pass
+lumaColumns b = columnsOf false 16 (b .y .0 % 32) (b .x .0 % 32) (bw4 b) (bh4 b)
+
+abbrev pub lumaRows : Block → Pass
+lumaRows b = rowsOf false 16 (b .y .0 % 32) (b .x .0 % 32) (bw4 b) (bh4 b)
+
+abbrev pub chromaColumns : Block → Pass
+chromaColumns b = columnsOf true (halfUnits (ssy b)) (cby4 b) (cbx4 b) (cbw4 b) (cbh4 b)
+
+abbrev pub chromaRows : Block → Pass
+chromaRows b = rowsOf true (halfUnits (ssx b)) (cby4 b) (cbx4 b) (cbw4 b) (cbh4 b)
+
+-- ---- levels
+
+abbrev pub lumaLevels : Block → ℕ → List ℕ → List ℕ → List ℕ
+lumaLevels b stride values ls =
+    cond (seesLuma b) (fillLevels (levelAt stride (b .x .0) (b .y .0) 0) stride (bw4 b) (bh4 b) (valueOf b values 0) (valueOf b values 1) ls) ls
+
+abbrev pub chromaLevels : Block → ℕ → List ℕ → List ℕ → List ℕ
+chromaLevels b stride values ls =
+    cond (seesChroma b)
+    (fillLevels (levelAt stride (chromaUnit (ssx b) (b .x .0)) (chromaUnit (ssy b) (b .y .0)) 2) stride (cbw4 b) (cbh4 b) (valueOf b values 2) (valueOf b values 3) ls)
+    ls
+
+-- ---- masks
+
+abbrev pub intraMasks : Block → List ℕ → List ℕ → List ℕ → List ℕ
+intraMasks b a l ms = cond (seesLuma b) (inRecord (recordAt b) (gridMasks (lumaColumns b) (lumaRows b) lumaClass (b .tx) false a l) ms) ms
+
+abbrev pub interMasks : Block → List ℕ → List ℕ → List ℕ → List ℕ → List ℕ
+interMasks b tm a l ms =
+    cond (seesLuma b)
+    (inRecord (recordAt b) (cellMasks (lumaColumns b) (lumaRows b) (tables tm (b .tx) (bw4 b) (bh4 b)) (b .skip) a l) ms)
+    ms
+
+abbrev pub lumaMasks : Block → List ℕ → List ℕ → List ℕ → List ℕ → List ℕ
+lumaMasks b tm a l ms = cond (b .inter) (interMasks b tm a l ms) (intraMasks b a l ms)
+
+abbrev pub chromaMasks : Block → List ℕ → List ℕ → List ℕ → List ℕ
+chromaMasks b a l ms =
+    cond (seesChroma b) (inRecord (recordAt b) (gridMasks (chromaColumns b) (chromaRows b) chromaClass (b .uvtx) (b .skip) a l) ms) ms
+
+-- ---- contexts
+
+abbrev pub intraAbove : Block → List ℕ → List ℕ
+intraAbove b a = cond (seesLuma b) (stores (bw4 b) (λ _. lumaClass (Tx_High (b .tx))) a) a
+
+abbrev pub intraLeft : Block → List ℕ → List ℕ
+intraLeft b l = cond (seesLuma b) (stores (bh4 b) (λ _. lumaClass (Tx_Wide (b .tx))) l) l
+
+abbrev pub interAbove : Block → List ℕ → List ℕ → List ℕ
+interAbove b tm a =
+    cond (seesLuma b) (stores (bw4 b) (classIn (tables tm (b .tx) (bw4 b) (bh4 b)) (lumaRows b) (bh4 b - 1)) a) a
+
+abbrev pub interLeft : Block → List ℕ → List ℕ → List ℕ
+interLeft b tm l =
+    cond (seesLuma b) (stores (bh4 b) (classIn (tables tm (b .tx) (bw4 b) (bh4 b)) (lumaColumns b) (bw4 b - 1)) l) l
+
+abbrev pub lumaAbove : Block → List ℕ → List ℕ → List ℕ
+lumaAbove b tm a = cond (b .inter) (interAbove b tm a) (intraAbove b a)
+
+abbrev pub lumaLeft : Block → List ℕ → List ℕ → List ℕ
+lumaLeft b tm l = cond (b .inter) (interLeft b tm l) (intraLeft b l)
+
+abbrev pub chromaAbove : Block → List ℕ → List ℕ
+chromaAbove b a = cond (seesChroma b) (stores (cbw4 b) (λ _. chromaClass (Tx_High (b .uvtx))) a) a
+
+abbrev pub chromaLeft : Block → List ℕ → List ℕ
+chromaLeft b l = cond (seesChroma b) (stores (cbh4 b) (λ _. chromaClass (Tx_Wide (b .uvtx))) l) l
+
+-- ---- the contract
+
+pub record RecordAnswer (b : Block) (stride : ℕ) (values tm : List ℕ) (r : ℕ) (before after : Lent) : Type 0 where
+  pub code : r ≡ number b stride before
+  pub levels : after .levels ≡ cond (eqb r 0) (chromaLevels b stride values (lumaLevels b stride values (before .levels))) (before .levels)
+  pub masks : after .masks
+      ≡ cond (eqb r 0) (chromaMasks b (before .above-uv) (before .left-uv) (lumaMasks b tm (before .above) (before .left) (before .masks))) (before .masks)
+  pub above : after .above ≡ cond (eqb r 0) (lumaAbove b tm (before .above)) (before .above)
+  pub left : after .left ≡ cond (eqb r 0) (lumaLeft b tm (before .left)) (before .left)
+  pub above-uv : after .above-uv ≡ cond (eqb r 0) (chromaAbove b (before .above-uv)) (before .above-uv)
+  pub left-uv : after .left-uv ≡ cond (eqb r 0) (chromaLeft b (before .left-uv)) (before .left-uv)
+
+pub record Sound (b : Block) : Type 0 where
+  pub sides : Sides b
+  pub tx : b .tx < 19
+  pub uvtx : b .chroma ≡ true → b .uvtx < 19
+  pub x-on : b .x .0 % wide b ≡ 0
+  pub y-on : b .y .0 % high b ≡ 0
+  pub x-in : b .x .0 ≤ w4 b
+  pub y-in : b .y .0 ≤ h4 b
+  pub largest : b .inter ≡ true → (b .tx ≡ Max_Tx_Size_Rect (b .size)) ⊎ (b .tx ≡ 0)
+  pub reference : b .reference < 8
+  pub mode : b .mode < 2

@@ -1,0 +1,70 @@
+// The level bytes of a block's visible units.
+use block::Block;
+use block::chroma_high;
+use block::chroma_wide;
+use block::luma_high;
+use block::luma_wide;
+use units::chroma_unit;
+use units::layout::ss_hor;
+use units::layout::ss_ver;
+use units::memory::chroma_level_at;
+use units::memory::luma_level_at;
+ghost use mathlib.Core.Path.{_≡_};
+ghost use mathlib.Core.Bool.{true};
+ghost use Prim.Native.Nat.{ℕ, _+_, _*_, _<_, _≤_};
+ghost use lib.ListN.{length};
+ghost use Rattle.block.specs.Block.{w4, h4, seesLuma, seesChroma};
+ghost use Rattle.record.specs.Record.{valueOf, fillRow, fillLevels, lumaLevels, chromaLevels, Sound};
+
+fn value(values: &[u8; 64], kind: usize, b: Block) -> u8
+    requires { ⌜ (kind < 4) × (b .reference < 8) × (b .mode < 2) ⌝ }
+    ensures { λ r. ⌜ r ≡ valueOf b (now (values .entry)) kind ⌝ }
+{
+    values[(kind * 8 + b.reference) * 2 + b.mode]
+}
+
+fn fill_row(levels: &mut [u8], at: usize, w: usize, u: u8, v: u8)
+    requires { ⌜ at + 4 * w ≤ length (now levels) + 2 ⌝ }
+    ensures { λ _. ⌜ now (levels .exit) ≡ fillRow at w u v (now (levels .entry)) ⌝ }
+{
+    for i in 0..w {
+        levels[at + 4 * i] = u;
+        levels[at + 4 * i + 1] = v;
+    }
+}
+
+fn fill_levels(levels: &mut [u8], at: usize, stride: usize, w: usize, h: usize, u: u8, v: u8)
+    requires { ⌜ 0 < w ⌝ }
+    requires lines { ⌜ ((j : ℕ) → j < h → at + 4 * (j * stride + w) ≤ length (now levels) + 2) ⌝ }
+    ensures { λ _. ⌜ now (levels .exit) ≡ fillLevels at stride w h u v (now (levels .entry)) ⌝ }
+{
+    for j in 0..h {
+        fill_row(levels, at + 4 * (j * stride), w, u, v);
+    }
+}
+
+pub fn luma_levels(levels: &mut [u8], stride: usize, values: &[u8; 64], b: Block)
+    requires { ⌜ Sound b × (seesLuma b ≡ true) × (w4 b ≤ stride) × (4 * stride * h4 b ≤ length (now levels)) ⌝ }
+    ensures { λ _. ⌜ now (levels .exit) ≡ lumaLevels b stride (now (values .entry)) (now (levels .entry)) ⌝ }
+{
+    let at = luma_level_at(stride, b.x, b.y, 0);
+    let u = value(values, 0, b);
+    let v = value(values, 1, b);
+    let bw4 = luma_wide(b);
+    let bh4 = luma_high(b);
+    fill_levels(levels, at, stride, bw4.0, bh4.0, u, v);
+}
+
+pub fn chroma_levels(levels: &mut [u8], stride: usize, values: &[u8; 64], b: Block)
+    requires { ⌜ Sound b × (seesChroma b ≡ true) × (w4 b ≤ stride) × (4 * stride * h4 b ≤ length (now levels)) ⌝ }
+    ensures { λ _. ⌜ now (levels .exit) ≡ chromaLevels b stride (now (values .entry)) (now (levels .entry)) ⌝ }
+{
+    let cx = chroma_unit(b.x, ss_hor(b.layout));
+    let cy = chroma_unit(b.y, ss_ver(b.layout));
+    let at = chroma_level_at(stride, cx, cy, 2);
+    let u = value(values, 2, b);
+    let v = value(values, 3, b);
+    let cbw4 = chroma_wide(b);
+    let cbh4 = chroma_high(b);
+    fill_levels(levels, at, stride, cbw4.0, cbh4.0, u, v);
+}

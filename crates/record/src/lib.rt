@@ -1,0 +1,188 @@
+// Recording of intra and inter blocks: level bytes, masks and contexts.
+mod levels;
+mod masks;
+
+use block::Block;
+use block::number::number;
+use block::sees_chroma;
+use block::sees_luma;
+use levels::chroma_levels;
+use levels::luma_levels;
+use masks::chroma_masks;
+use masks::inter_masks;
+use masks::intra_masks;
+use units::LumaUnit;
+use units::Sample;
+ghost use mathlib.Core.Path.{_≡_};
+ghost use mathlib.Core.Bool.{Bool, true};
+ghost use mathlib.Core.List.{[]};
+ghost use Prim.Native.Nat.{_*_, _<_, _≤_};
+ghost use lib.ListN.{length};
+ghost use Rattle.units.specs.Frame.{frameRecords};
+ghost use Rattle.block.specs.Block.{w4, h4, bw4, bh4, cbw4, cbh4, seesLuma, seesChroma, lent};
+ghost use Rattle.record.specs.Record.{intraOf, interOf, lumaLevels, chromaLevels, intraMasks, interMasks, chromaMasks, intraAbove, intraLeft, interAbove, interLeft, chromaAbove, chromaLeft, RecordAnswer, Sound};
+
+fn intra_luma(
+    levels: &mut [u8],
+    stride: usize,
+    masks: &mut [u16],
+    values: &[u8; 64],
+    b: Block,
+    above: &mut [u8],
+    left: &mut [u8],
+)
+    requires { ⌜ Sound b × (w4 b ≤ stride) × (4 * stride * h4 b ≤ length (now levels)) × (640 * frameRecords (w4 b) (h4 b) ≤ length (now masks)) × (seesLuma b ≡ true → (bw4 b ≤ length (now above)) × (bh4 b ≤ length (now left))) ⌝ }
+    ensures levels { λ _. ⌜ now (levels .exit) ≡ lumaLevels b stride (now (values .entry)) (now (levels .entry)) ⌝ }
+    ensures masks { λ _. ⌜ now (masks .exit) ≡ intraMasks b (now (above .entry)) (now (left .entry)) (now (masks .entry)) ⌝ }
+    ensures above { λ _. ⌜ now (above .exit) ≡ intraAbove b (now (above .entry)) ⌝ }
+    ensures left { λ _. ⌜ now (left .exit) ≡ intraLeft b (now (left .entry)) ⌝ }
+{
+    if !sees_luma(b) {
+        return;
+    }
+    luma_levels(levels, stride, values, b);
+    intra_masks(masks, b, above, left);
+}
+
+fn inter_luma(
+    levels: &mut [u8],
+    stride: usize,
+    masks: &mut [u16],
+    values: &[u8; 64],
+    b: Block,
+    tx_masks: &[u16; 2],
+    above: &mut [u8],
+    left: &mut [u8],
+)
+    requires { ⌜ Sound b × (w4 b ≤ stride) × (4 * stride * h4 b ≤ length (now levels)) × (640 * frameRecords (w4 b) (h4 b) ≤ length (now masks)) × (seesLuma b ≡ true → (bw4 b ≤ length (now above)) × (bh4 b ≤ length (now left))) × (b .inter ≡ true) ⌝ }
+    ensures levels { λ _. ⌜ now (levels .exit) ≡ lumaLevels b stride (now (values .entry)) (now (levels .entry)) ⌝ }
+    ensures masks { λ _. ⌜ now (masks .exit) ≡ interMasks b (now («tx_masks» .entry)) (now (above .entry)) (now (left .entry)) (now (masks .entry)) ⌝ }
+    ensures above { λ _. ⌜ now (above .exit) ≡ interAbove b (now («tx_masks» .entry)) (now (above .entry)) ⌝ }
+    ensures left { λ _. ⌜ now (left .exit) ≡ interLeft b (now («tx_masks» .entry)) (now (left .entry)) ⌝ }
+{
+    if !sees_luma(b) {
+        return;
+    }
+    luma_levels(levels, stride, values, b);
+    inter_masks(masks, b, tx_masks, above, left);
+}
+
+fn chroma_pair(
+    levels: &mut [u8],
+    stride: usize,
+    masks: &mut [u16],
+    values: &[u8; 64],
+    b: Block,
+    above: &mut [u8],
+    left: &mut [u8],
+)
+    requires { ⌜ Sound b × (w4 b ≤ stride) × (4 * stride * h4 b ≤ length (now levels)) × (640 * frameRecords (w4 b) (h4 b) ≤ length (now masks)) × (seesChroma b ≡ true → (cbw4 b ≤ length (now above)) × (cbh4 b ≤ length (now left))) ⌝ }
+    ensures levels { λ _. ⌜ now (levels .exit) ≡ chromaLevels b stride (now (values .entry)) (now (levels .entry)) ⌝ }
+    ensures masks { λ _. ⌜ now (masks .exit) ≡ chromaMasks b (now (above .entry)) (now (left .entry)) (now (masks .entry)) ⌝ }
+    ensures above { λ _. ⌜ now (above .exit) ≡ chromaAbove b (now (above .entry)) ⌝ }
+    ensures left { λ _. ⌜ now (left .exit) ≡ chromaLeft b (now (left .entry)) ⌝ }
+{
+    if !sees_chroma(b) {
+        return;
+    }
+    chroma_levels(levels, stride, values, b);
+    chroma_masks(masks, b, above, left);
+}
+
+pub fn record_intra(
+    levels: &mut [u8],
+    stride: usize,
+    masks: &mut [u16],
+    values: &[u8; 64],
+    width: u32,
+    height: u32,
+    layout: u32,
+    x: u32,
+    y: u32,
+    size: u32,
+    tx: u32,
+    above: &mut [u8],
+    left: &mut [u8],
+    chroma: u32,
+    uvtx: u32,
+    above_uv: &mut [u8],
+    left_uv: &mut [u8],
+) -> u32
+    ensures { λ r. ⌜ RecordAnswer (intraOf width height layout x y size tx chroma uvtx) stride (now (values .entry)) [] r
+        (lent (now (levels .entry)) (now (masks .entry)) (now (above .entry)) (now (left .entry)) (now («above_uv» .entry)) (now («left_uv» .entry)))
+        (lent (now (levels .exit)) (now (masks .exit)) (now (above .exit)) (now (left .exit)) (now («above_uv» .exit)) (now («left_uv» .exit))) ⌝ }
+{
+    let b = Block {
+        width: Sample(width as usize),
+        height: Sample(height as usize),
+        layout: layout as usize,
+        x: LumaUnit(x as usize),
+        y: LumaUnit(y as usize),
+        size: size as usize,
+        tx: tx as usize,
+        chroma: chroma != 0,
+        uvtx: uvtx as usize,
+        inter: false,
+        skip: false,
+        reference: 0,
+        mode: 0,
+    };
+    let n = number(b, stride, levels, masks, above, left, above_uv, left_uv);
+    if n != 0 {
+        return n;
+    }
+    intra_luma(levels, stride, masks, values, b, above, left);
+    chroma_pair(levels, stride, masks, values, b, above_uv, left_uv);
+    0
+}
+
+pub fn record_inter(
+    levels: &mut [u8],
+    stride: usize,
+    masks: &mut [u16],
+    values: &[u8; 64],
+    width: u32,
+    height: u32,
+    layout: u32,
+    x: u32,
+    y: u32,
+    size: u32,
+    tx: u32,
+    tx_masks: &[u16; 2],
+    skip: u32,
+    reference: u32,
+    mode: u32,
+    above: &mut [u8],
+    left: &mut [u8],
+    chroma: u32,
+    uvtx: u32,
+    above_uv: &mut [u8],
+    left_uv: &mut [u8],
+) -> u32
+    ensures { λ r. ⌜ RecordAnswer (interOf width height layout x y size tx chroma uvtx skip reference mode) stride (now (values .entry)) (now («tx_masks» .entry)) r
+        (lent (now (levels .entry)) (now (masks .entry)) (now (above .entry)) (now (left .entry)) (now («above_uv» .entry)) (now («left_uv» .entry)))
+        (lent (now (levels .exit)) (now (masks .exit)) (now (above .exit)) (now (left .exit)) (now («above_uv» .exit)) (now («left_uv» .exit))) ⌝ }
+{
+    let b = Block {
+        width: Sample(width as usize),
+        height: Sample(height as usize),
+        layout: layout as usize,
+        x: LumaUnit(x as usize),
+        y: LumaUnit(y as usize),
+        size: size as usize,
+        tx: tx as usize,
+        chroma: chroma != 0,
+        uvtx: uvtx as usize,
+        inter: true,
+        skip: skip != 0,
+        reference: reference as usize,
+        mode: (mode != 0) as usize,
+    };
+    let n = number(b, stride, levels, masks, above, left, above_uv, left_uv);
+    if n != 0 {
+        return n;
+    }
+    inter_luma(levels, stride, masks, values, b, tx_masks, above, left);
+    chroma_pair(levels, stride, masks, values, b, above_uv, left_uv);
+    0
+}
