@@ -1,3 +1,4 @@
 pub mod Rooms
 pub mod Stores
 pub mod Sounds
+pub mod Answers

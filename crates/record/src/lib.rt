@@ -21,6 +21,7 @@ ghost use lib.ListN.{length};
 ghost use Rattle.units.specs.Frame.{frameRecords};
 ghost use Rattle.block.specs.Block.{w4, h4, bw4, bh4, cbw4, cbh4, seesLuma, seesChroma, lent};
 ghost use Rattle.record.specs.Record.{intraOf, interOf, lumaLevels, chromaLevels, intraMasks, interMasks, chromaMasks, intraAbove, intraLeft, interAbove, interLeft, chromaAbove, chromaLeft, RecordAnswer, Sound};
+ghost use Rattle.record.specs.Promises.{Promises};
 
 fn intra_luma(
     levels: &mut [u8],
@@ -186,3 +187,8 @@ pub fn record_inter(
     chroma_pair(levels, stride, masks, values, b, above_uv, left_uv);
     0
 }
+
+// The theorems of specs/Promises.antt are proved.
+pub fn promised()
+    ensures { λ _. ⌜ Promises ⌝ }
+{}
