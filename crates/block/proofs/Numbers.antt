@@ -1,5 +1,5 @@
 -- The number of a block, exactly when: each test reflects its fault, and the faults are those of document 01 by their constructors.
-use mathlib.Core.Bool.{Bool, true, false, not, _&&_, _||_}
+use mathlib.Core.Bool.{true}
 use mathlib.Core.List.{List, [], _∷_}
 use mathlib.Core.Logic.{_⊎_, inl, inr, ⊎-elim, by-cases}
 use mathlib.Core.Path.{_≡_, refl, sym, _∙_}
@@ -15,12 +15,11 @@ use Rattle.loops.proofs.Reflected.{exactly-then, reflects-ltb, reflects-eqb, re
 use Rattle.loops.proofs.Numbers.{gives, gives-0}
 use Rattle.standard.specs.Sizes.{Tx_Wide, Tx_High, Max_Tx_Size_Rect}
 use Rattle.units.specs.Units.{chromaUnits}
-use Rattle.units.specs.Layout.{Layout, layoutOk, hasChroma}
-use Rattle.units.specs.Frame.{frameOk, frameRecords}
-use Rattle.units.specs.Memory.{levelsOk, masksOk}
+use Rattle.units.specs.Layout.{Layout}
+use Rattle.units.specs.Frame.{frameRecords}
 use Rattle.units.proofs.Tests.{reflects-layout, reflects-chroma, reflects-frame, reflects-levels, reflects-masks}
 use Rattle.block.specs.declared.Block.{Block}
-use Rattle.block.specs.Block.{w4, h4, wide, high, ssx, ssy, bw4, bh4, cbw4, cbh4, seesLuma, seesChroma, Lent}
+use Rattle.block.specs.Block.{w4, h4, wide, high, ssx, ssy, bw4, bh4, cbw4, cbh4, Lent}
 use Rattle.block.specs.Tests.{shapeBad, codeBad, placeBad, txBad, maxTxBad, refBad, contextBad, lumaContextsBad, chromaContextsBad, lengthBad, number}
 use Rattle.block.specs.Faults.{Multiple, ShapeFault, layout-other, size-outside, pair-at-400}
 use Rattle.block.specs.Faults.{CodeFault, size-above, tx-above, uvtx-above, PlaceFault, x-between, y-between, x-past, y-past}

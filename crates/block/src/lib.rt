@@ -43,14 +43,18 @@ pub fn luma_wide(b: Block) -> LumaUnit
     requires { ⌜ Sides b × (b .x .0 ≤ w4 b) ⌝ }
     ensures { λ r. ⌜ r .0 ≡ bw4 b ⌝ }
 {
-    LumaUnit(least(luma_units(b.width).0 - b.x.0, block_wide(b.size).0))
+    let rest = luma_units(b.width).0 - b.x.0;
+    let wide = block_wide(b.size).0;
+    LumaUnit(least(rest, wide))
 }
 
 pub fn luma_high(b: Block) -> LumaUnit
     requires { ⌜ Sides b × (b .y .0 ≤ h4 b) ⌝ }
     ensures { λ r. ⌜ r .0 ≡ bh4 b ⌝ }
 {
-    LumaUnit(least(luma_units(b.height).0 - b.y.0, block_high(b.size).0))
+    let rest = luma_units(b.height).0 - b.y.0;
+    let high = block_high(b.size).0;
+    LumaUnit(least(rest, high))
 }
 
 // Of w4 or h4 units from the place u on, what a block's side of n units has in the chroma plane.

@@ -1,34 +1,24 @@
-use Rattle.block.proofs.Passed.{chroma-unit-le}
+-- `chroma_side` meets its contract: a place up to the frame's end has its chroma unit up to the plane's.
 use borrow.Author.Needs.{needs}
+use Rattle.block.proofs.Passed.{chroma-unit-le}
 use Rattle.block.proofs.chroma_side.Statement.{statement}
 use Rattle.block.proofs.chroma_side.Tie as tie
-use Rattle.block.proofs.chroma_side.Reads as reads
-use Rattle.block.proofs.chroma_side.Lts as lts
-use Rattle.block.proofs.least.Reads as least-reads
-use Rattle.units.proofs.chroma_unit.Reads as chroma-unit-reads
-use Rattle.units.proofs.chroma_units.Reads as chroma-units-reads
 
--- src/lib.rt:61:22
 chroma-units-requires : tie.Need-chroma-units-requires
 chroma-units-requires c κs = search needs
 
--- src/lib.rt:61:48
 chroma-unit-requires : tie.Need-chroma-unit-requires
 chroma-unit-requires c κs = search needs
 
--- src/lib.rt:61:22
 sub-least : tie.Need-sub-least
 sub-least c = rw (c .before .before .before .chroma-units .ensures, c .before .before .chroma-unit .ensures) (chroma-unit-le (c .before .before .before .before .args .u .0) (c .before .before .before .before .args .all .0) (c .before .before .before .before .args .ss) (c .before .before .before .before .pre .0) (c .before .before .before .before .pre .3))
 
--- src/lib.rt:61:70
 chroma-units-requires-2 : tie.Need-chroma-units-requires-2
 chroma-units-requires-2 c κs = search needs
 
--- src/lib.rt:61:16
 least-requires : tie.Need-least-requires
 least-requires c κs = search needs
 
--- src/lib.rt:57:1
 returns : tie.Need-returns
 returns c = search needs
 

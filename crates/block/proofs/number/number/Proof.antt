@@ -1,10 +1,8 @@
+-- `number` meets its contract: each test is asked where those before it have failed.
+use mathlib.Core.Path.{refl, sym, _∙_}
+use borrow.Author.Needs.{needs}
 use Rattle.block.proofs.Passed.{shaped, coded, placed, sides}
 use Rattle.block.specs.Tests.{number}
--- TODO
-use borrow.Author.Needs.{needs}
-use native.Mathlib.Omega.{arith}
-use mathlib.Core.Path.{_≡_, refl, sym, ap, _∙_}
-use Prim.Native.Nat.{ℕ, _+_, _-_, _*_, _≤_, _<_}
 use Rattle.block.proofs.number.number.Statement.{statement}
 use Rattle.block.proofs.number.number.Tie as tie
 

@@ -1,58 +1,40 @@
-use borrow.Author.Tests.{not-true, not-false}
+-- `chroma_tx_bad` meets its contract: the chroma transform's code is in its range where there is a chroma pair.
+use mathlib.Core.Path.{refl}
 use native.Mathlib.Omega.{arith}
+use borrow.Author.Tests.{not-true, not-false}
+use borrow.Author.Needs.{needs}
 use Rattle.units.proofs.Places.{ss-hor-le, ss-ver-le}
 use Rattle.units.proofs.Rules.{block-rule}
-use mathlib.Core.Path.{refl, sym, _∙_}
-use borrow.Author.Needs.{needs}
 use Rattle.block.proofs.tests.chroma_tx_bad.Statement.{statement}
 use Rattle.block.proofs.tests.chroma_tx_bad.Tie as tie
-use Rattle.block.proofs.tests.chroma_tx_bad.Reads as reads
-use Rattle.block.proofs.tests.chroma_tx_bad.Lts as lts
-use Rattle.units.proofs.chroma_units.Reads as chroma-units-reads
-use Rattle.units.proofs.layout.ss_hor.Reads as ss-hor-reads
-use Rattle.units.proofs.layout.ss_ver.Reads as ss-ver-reads
-use Rattle.units.proofs.sizes.block_high.Reads as block-high-reads
-use Rattle.units.proofs.sizes.block_wide.Reads as block-wide-reads
-use Rattle.units.proofs.sizes.chroma_tx_high.Reads as chroma-tx-high-reads
-use Rattle.units.proofs.sizes.chroma_tx_wide.Reads as chroma-tx-wide-reads
 
--- src/tests.rt:65:9
 returns : tie.Need-returns
 returns c = rw (not-true (c .before .before .args .b .chroma) (c .if1 .taken)) refl
 
--- src/tests.rt:67:26
 block-wide-requires : tie.Need-block-wide-requires
 block-wide-requires c κs = search needs
 
--- src/tests.rt:67:46
 ss-hor-requires : tie.Need-ss-hor-requires
 ss-hor-requires c κs = search needs
 
--- src/tests.rt:67:13
 chroma-units-requires : tie.Need-chroma-units-requires
 chroma-units-requires c κs = (omega (arith, c .before .block-wide .ensures, block-rule (c .before .before .before .before .args .b .size) (c .before .before .before .before .pre .0) .wide .high), rw (c .ss-hor .ensures) (ss-hor-le (c .before .before .before .before .args .b .layout)))
 
--- src/tests.rt:68:26
 block-high-requires : tie.Need-block-high-requires
 block-high-requires c κs = search needs
 
--- src/tests.rt:68:46
 ss-ver-requires : tie.Need-ss-ver-requires
 ss-ver-requires c κs = search needs
 
--- src/tests.rt:68:13
 chroma-units-requires-2 : tie.Need-chroma-units-requires-2
 chroma-units-requires-2 c κs = (omega (arith, c .before .block-high .ensures, block-rule (c .before .before .before .before .before .before .before .args .b .size) (c .before .before .before .before .before .before .before .pre .0) .high .high), rw (c .ss-ver .ensures) (ss-ver-le (c .before .before .before .before .before .before .before .args .b .layout)))
 
--- src/tests.rt:69:10
 chroma-tx-wide-requires : tie.Need-chroma-tx-wide-requires
 chroma-tx-wide-requires c κs = c .before .before .before .before .before .before .before .before .pre .1 (not-false _ (c .before .before .before .before .before .before .if1 .left))
 
--- src/tests.rt:69:43
 chroma-tx-high-requires : tie.Need-chroma-tx-high-requires
 chroma-tx-high-requires c κs = c .before .before .before .before .before .before .before .before .before .before .pre .1 (not-false _ (c .before .before .before .before .before .before .before .before .if1 .left))
 
--- src/tests.rt:60:1
 returns-2 : tie.Need-returns-2
 returns-2 c = rw (not-false (c .before .before .before .before .before .before .before .before .before .before .before .before .args .b .chroma) (c .before .before .before .before .before .before .before .before .before .before .if1 .left), c .before .before .before .before .before .before .before .chroma-units .ensures, c .before .before .before .before .chroma-units2 .ensures, c .before .before .before .chroma-tx-wide .ensures, c .before .chroma-tx-high .ensures, c .before .before .before .before .before .before .before .before .ss-hor .ensures, c .before .before .before .before .before .ss-ver .ensures, c .before .before .before .before .before .before .before .before .before .block-wide .ensures, c .before .before .before .before .before .before .block-high .ensures) refl
 
