@@ -17,8 +17,7 @@ use Rattle.bits.specs.Bit.{hasBit}
 use Rattle.bits.specs.Mark.{isSet}
 use Rattle.bits.proofs.Bits.{hasBit-or, hasBit-nil}
 use Rattle.plane.specs.Line.{Pass}
-use Rattle.gap.specs.Edges.{Grid, other, side, half, classes, edgeBit, highest}
-use Rattle.gap.specs.Fits.{Proper}
+use Rattle.edges.specs.Edges.{Grid, other, side, half, classes, edgeBit, highest, Proper}
 use Rattle.gap.specs.Line.{lineBroken}
 use Rattle.gap.specs.Lines.{bitOf, lineWord}
 use Rattle.gap.specs.Numbers.{halfBit, fits, badHalf}

@@ -9,8 +9,8 @@ use Rattle.loops.proofs.Lists.{prod-le}
 use Rattle.units.specs.Frame.{records}
 use Rattle.units.specs.Units.{chromaUnit}
 use Rattle.gap.specs.declared.walk.Track.{Track}
-use Rattle.gap.specs.Edges.{chromaGrid}
-use Rattle.gap.specs.Fits.{Proper, MasksFit}
+use Rattle.edges.specs.Edges.{chromaGrid, Proper}
+use Rattle.gap.specs.Fits.{MasksFit}
 use Rattle.gap.specs.Lines.{recordRow}
 use Rattle.gap.specs.Track.{stepOf, startOf, classWord, startT, partT, track, columnWords, rowWords}
 use Rattle.gap.proofs.Cells.{fewer-units}

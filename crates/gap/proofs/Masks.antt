@@ -14,8 +14,7 @@ use Rattle.bits.specs.Mark.{isSet}
 use Rattle.bits.proofs.Bits.{has-of-bit, bit-low, bit-high, hasBit-nil}
 use Rattle.plane.specs.Line.{Pass, columns, rows}
 use Rattle.units.specs.Memory.{lumaWord, chromaWord, lumaBit, chromaBit, halfUnits}
-use Rattle.gap.specs.Edges.{Grid, other, passNo, ssOf, unitsOf, side, half, recordAt, wordIn, bitIn, edgeBit}
-use Rattle.gap.specs.Fits.{Proper}
+use Rattle.edges.specs.Edges.{Grid, other, passNo, ssOf, unitsOf, side, half, recordAt, wordIn, bitIn, edgeBit, Proper}
 use Rattle.gap.specs.Numbers.{halfBit, fits}
 use Rattle.gap.specs.Track.{wordAt, stepOf, startOf, classWord}
 use Rattle.gap.proofs.Runs.{both-true}

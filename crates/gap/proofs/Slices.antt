@@ -13,7 +13,7 @@ use Rattle.bits.specs.Bit.{hasBit}
 use Rattle.bits.specs.Word.{orBelow}
 use Rattle.bits.proofs.Bits.{hasBit-or, hasBit-and, hasBit-nil, hasBit-ones}
 use Rattle.bits.proofs.Words.{word-some, has-orBelow}
-use Rattle.gap.specs.Edges.{highest}
+use Rattle.edges.specs.Edges.{highest}
 use Rattle.gap.specs.Line.{atLeast, marked, prev, clashes, clash, lineBroken}
 use Rattle.gap.specs.Track.{clashW}
 

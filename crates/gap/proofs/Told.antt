@@ -16,7 +16,7 @@ use Rattle.loops.proofs.Reflected.{reflects-as, reflects-ltb, reflects-flag, re
 use Rattle.bits.specs.Mark.{isSet}
 use Rattle.plane.specs.Line.{Pass, columns, rows, Piece}
 use Rattle.units.specs.Frame.{records}
-use Rattle.gap.specs.Edges.{Grid, other, unitsOf, half, classes, edge, inFrame}
+use Rattle.edges.specs.Edges.{Grid, other, unitsOf, half, classes, edge, inFrame}
 use Rattle.gap.specs.Line.{lineBroken}
 use Rattle.gap.specs.Numbers.{sbUnits, storedUnits, part, gap, halfBit, fits, badHalf, outside}
 use Rattle.gap.specs.Promises.{Keeps, Looks, Gap, Across, Along, Outside, Promises}

@@ -1,18 +1,9 @@
 -- What the lower numbers leave to numbers 11 and 12.
---   Proper        a plane's subsampling goes with its kind
 --   MasksFit      superblock row k lies in the frame, and the masks hold the frame's records
 use mathlib.Core.Path.{_≡_}
-use mathlib.Core.Bool.{true}
 use mathlib.Core.Logic.{_⊎_}
 use Prim.Native.Nat.{ℕ, _*_, _≤_, _<_}
 use Rattle.units.specs.Frame.{frameRecords}
-use Rattle.gap.specs.Edges.{Grid}
-
-pub record Proper (G : Grid) : Type 0 where
-  pub ssx-le : G .ssx ≤ 1
-  pub ssy-le : G .ssy ≤ 1
-  pub luma-x : G .isLuma ≡ true → G .ssx ≡ 0
-  pub luma-y : G .isLuma ≡ true → G .ssy ≡ 0
 
 pub record MasksFit (len w4 h4 sb4 k : ℕ) : Type 0 where
   pub size : (sb4 ≡ 16) ⊎ (sb4 ≡ 32)

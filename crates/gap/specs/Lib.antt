@@ -1,5 +1,4 @@
--- Document 01, numbers 11 and 12: the edges that masks hold, and the two numbers.
-pub mod Edges
+-- Document 01, numbers 11 and 12.
 pub mod Line
 pub mod Lines
 pub mod Numbers

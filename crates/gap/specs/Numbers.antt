@@ -22,7 +22,7 @@ use Rattle.plane.specs.Line.{Pass, columns, rows}
 use Rattle.units.specs.Frame.{records}
 use Rattle.units.specs.Units.{chromaUnit}
 use Rattle.gap.specs.declared.Both.{Both}
-use Rattle.gap.specs.Edges.{Grid, other, unitsOf, side, half, recordAt, classes, wordIn, edge}
+use Rattle.edges.specs.Edges.{Grid, other, unitsOf, side, half, recordAt, classes, wordIn, edge}
 use Rattle.gap.specs.Line.{lineBroken}
 use Rattle.gap.specs.Lines.{inRecord}
 

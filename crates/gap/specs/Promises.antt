@@ -15,8 +15,7 @@ use Rattle.bits.specs.Mark.{isSet}
 use Rattle.plane.specs.Gap.{GapRule}
 use Rattle.plane.specs.Line.{Pass, columns, rows}
 use Rattle.units.specs.Frame.{records}
-use Rattle.gap.specs.Edges.{Grid, other, unitsOf, half, classes, edgeBit, edge}
-use Rattle.gap.specs.Fits.{Proper}
+use Rattle.edges.specs.Edges.{Grid, other, unitsOf, half, classes, edgeBit, edge, Proper}
 use Rattle.gap.specs.Numbers.{sbUnits, storedUnits, part, gap, halfBit, outside}
 
 abbrev pub Nowhere : ℕ → Type 0

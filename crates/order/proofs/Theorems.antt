@@ -7,8 +7,9 @@ use Rattle.loops.specs.Run.{run, upTo}
 use Rattle.plane.specs.Line.{columns, rows, Piece}
 use Rattle.loops.proofs.Runs.{upTo-part}
 use Rattle.plane.specs.Plane.{Widths, luma, chroma, Plane, Kept, act, colsOf, rowsOf}
+use Rattle.plane.specs.Three.{Three, colsCall, rowsCall}
 use Rattle.order.specs.Promises.{Promises, KeptFrame}
-use Rattle.order.specs.Demand3.{Demand3, Order, Sees, Three, colsCall, rowsCall, allOf, Frame3}
+use Rattle.order.specs.Demand3.{Demand3, Order, Sees, allOf, Frame3}
 use Rattle.plane.proofs.Pieces.{Fair, fair-luma, fair-chroma}
 use Rattle.order.proofs.Frames.{demand3, sees, far-luma, far-chroma}
 

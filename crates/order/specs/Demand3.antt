@@ -2,7 +2,7 @@
 --     Order, OrderIn                  a list that has each edge piece of a pass once, over the frame or in one superblock row
 --     Demand3                         of one plane
 --     Near, Sees                      how far a sample sees
---     Three, colsCall, rowsCall, allOf, Orders, Frame3     of the three planes of a frame together
+--     allOf, Orders, Frame3           of the three planes of a frame together
 use Prim.Native.Nat.{ℕ, _+_, _*_, _/_, _%_, _≤_, _<_}
 use mathlib.Core.Path.{_≡_}
 use mathlib.Core.List.{List}
@@ -10,6 +10,7 @@ use lib.ListN.{length, getD}
 use Rattle.loops.specs.Run.{run, Once, Parts, pieces, runParts, upTo}
 use Rattle.plane.specs.Line.{Pass, columns, rows, Piece}
 use Rattle.plane.specs.Plane.{Plane, act, IsPiece, Anywhere, InRow, colsOf, rowsOf, rasterOf}
+use Rattle.plane.specs.Three.{Three, colsCall, rowsCall}
 
 abbrev pub Order : Plane → Pass → List Piece → Type 0
 Order P d l = Once Anywhere (IsPiece P d) l
@@ -50,18 +51,6 @@ pub record Sees (P : Plane) (n : ℕ) : Type 0 where
       → getD (upTo (λ k u. rowsOf P k (colsOf P k u)) (P .sbs) s) i 0 ≡ getD (upTo (λ k u. rowsOf P k (colsOf P k u)) (P .sbs) t) i 0
 
 -- ---- the three planes of a frame
-
-pub record Three (A : Type 0) : Type 0 where
-  pub luma : A
-  pub u : A
-  pub v : A
-
--- the calls for the superblock row k
-unfoldable pub colsCall : Three Plane → ℕ → Three (List ℕ) → Three (List ℕ)
-colsCall F k s = record { luma = colsOf (F .luma) k (s .luma); u = colsOf (F .u) k (s .u); v = colsOf (F .v) k (s .v) }
-
-unfoldable pub rowsCall : Three Plane → ℕ → Three (List ℕ) → Three (List ℕ)
-rowsCall F k s = record { luma = rowsOf (F .luma) k (s .luma); u = rowsOf (F .u) k (s .u); v = rowsOf (F .v) k (s .v) }
 
 -- all edge pieces of one pass, in an order for each plane
 unfoldable pub allOf : Three Plane → Pass → Three (List Piece) → Three (List ℕ) → Three (List ℕ)

@@ -4,7 +4,8 @@
 use Prim.Native.Nat.{ℕ}
 use mathlib.Core.Path.{_≡_}
 use Rattle.plane.specs.Plane.{Plane, luma, chroma, Kept}
-use Rattle.order.specs.Demand3.{Demand3, Sees, Three, Frame3}
+use Rattle.plane.specs.Three.{Three}
+use Rattle.order.specs.Demand3.{Demand3, Sees, Frame3}
 
 -- a frame whose planes keep the rule, with n superblock rows
 pub record KeptFrame (F : Three Plane) (n : ℕ) : Type 0 where

@@ -1,7 +1,7 @@
 -- `columns` meets its contract: ColumnPass.
 use native.Mathlib.Omega.{arith}
 use borrow.Author.Needs.{needs}
-use Rattle.gap.specs.Edges.{gridOf}
+use Rattle.edges.specs.Edges.{gridOf}
 use Rattle.gap.proofs.ColumnPass.{columns-found}
 use Rattle.gap.proofs.Frames.{masks-in, lines-of, halves-of}
 use Rattle.gap.proofs.columns.Statement.{statement}

@@ -4,7 +4,7 @@ use Prim.Native.Nat.{_-_, _≤_}
 use native.Mathlib.Omega.{arith}
 use borrow.Author.Needs.{needs}
 use Rattle.units.specs.Frame.{records}
-use Rattle.gap.specs.Edges.{gridOf}
+use Rattle.edges.specs.Edges.{gridOf}
 use Rattle.gap.proofs.RowPass.{gapUpTo, outUpTo, gap-none, out-none, gap-more, out-more, rows-found}
 use Rattle.gap.proofs.rows.Statement.{statement}
 use Rattle.gap.proofs.rows.Tie as tie

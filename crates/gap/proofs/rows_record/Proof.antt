@@ -1,7 +1,7 @@
 -- `rows_record` meets its contract: RowPass, in one record.
 use native.Mathlib.Omega.{arith}
 use borrow.Author.Needs.{needs}
-use Rattle.gap.specs.Edges.{gridOf}
+use Rattle.edges.specs.Edges.{gridOf}
 use Rattle.gap.proofs.RowPass.{record-found}
 use Rattle.gap.proofs.Frames.{lines-of}
 use Rattle.gap.proofs.rows_record.Statement.{statement}

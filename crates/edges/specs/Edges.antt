@@ -2,6 +2,7 @@
 --   Grid                     a plane of units: its kind, its subsampling, and the frame in luma units
 --   gridOf                   of these numbers
 --   lumaGrid, chromaGrid     the two kinds; U and V share their masks
+--   Proper                   a plane's subsampling goes with its kind
 --   other, passNo            the other pass; a pass's number
 --   ssOf                     the subsampling of the direction across a pass: to the right in columns, down in rows
 --   unitsOf, side            the units of the frame in that direction, and those of a 128x128 record
@@ -14,10 +15,11 @@
 --   highest                  the highest class below n that is set
 --   edge                     the edge at a unit: the highest class whose bit is set; none outside the frame
 -- A unit is (across, along), as a `Piece` is.
+use mathlib.Core.Path.{_≡_}
 use mathlib.Core.Bool.{Bool, true, false, _&&_, cond}
 use mathlib.Core.List.{List}
 use mathlib.Core.Option.{Option, some, none}
-use Prim.Native.Nat.{ℕ, zero, suc, _+_, _*_, _/_, _%_, _^_}
+use Prim.Native.Nat.{ℕ, zero, suc, _+_, _*_, _/_, _%_, _^_, _≤_}
 use lib.Dec.{ltb}
 use Rattle.bits.specs.Mark.{isSet}
 use Rattle.plane.specs.Line.{Pass, columns, rows, Piece}
@@ -41,6 +43,12 @@ lumaGrid w4 h4 = gridOf true 0 0 w4 h4
 
 abbrev pub chromaGrid : ℕ → ℕ → ℕ → ℕ → Grid
 chromaGrid ss-hor ss-ver w4 h4 = gridOf false ss-hor ss-ver w4 h4
+
+pub record Proper (G : Grid) : Type 0 where
+  pub ssx-le : G .ssx ≤ 1
+  pub ssy-le : G .ssy ≤ 1
+  pub luma-x : G .isLuma ≡ true → G .ssx ≡ 0
+  pub luma-y : G .isLuma ≡ true → G .ssy ≡ 0
 
 abbrev pub other : Pass → Pass
 other columns = rows

@@ -1,0 +1,2 @@
+-- The edges that the masks of a frame hold
+pub mod Edges
