@@ -1,0 +1,4 @@
+-- a plane of a frame, from its masks, level bytes and limits
+pub mod Filter
+-- what filtering it asks
+pub mod Ready
