@@ -1,0 +1,6 @@
+pub mod Widths
+pub mod Axis
+pub mod Recorders
+pub mod Marked
+pub mod Theorems
+pub mod Example
