@@ -20,7 +20,7 @@ use Rattle.decomp.specs.Cells.{Covers}
 use Rattle.block.specs.declared.Block.{Block}
 use Rattle.block.specs.Block.{w4, h4, wide, high, ssx, ssy, bw4, bh4, cbw4, cbh4, seesLuma, seesChroma}
 use Rattle.block.proofs.Passed.{chroma-unit-le}
-use Rattle.record.specs.Record.{recordAt, cbx4, cby4, Sound}
+use Rattle.record.specs.Record.{recordAt, cbx4, cby4, Fitting}
 
 -- ---- sides
 
@@ -63,7 +63,7 @@ square-tall f = omega arith
 seen : (p q : ℕ) → (ltb 0 p && ltb 0 q) ≡ true → (0 < p) × (0 < q)
 seen p q e = let f = and-eq-true-iff (ltb 0 p) (ltb 0 q) .0 e in (ltb-true 0 p (f .0), ltb-true 0 q (f .1))
 
-module _ (b : Block) (s : Sound b) where
+module _ (b : Block) (s : Fitting b) where
   -- ---- luma
 
   module _ (e : seesLuma b ≡ true) where

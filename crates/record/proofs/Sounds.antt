@@ -20,7 +20,7 @@ use Rattle.block.specs.Block.{w4, h4, bw4, bh4, cbw4, cbh4, seesLuma, seesChrom
 use Rattle.block.specs.Tests.{maxTxBad, refBad, contextBad, number}
 use Rattle.block.proofs.Passed.{or-off, coded, placed, sides}
 use Rattle.block.proofs.Free.{Passed, free}
-use Rattle.record.specs.Record.{on, Sound}
+use Rattle.record.specs.Record.{on, Fitting, Sound}
 
 -- a flag as a number
 pub flag-low : (n : ℕ) → boolByte (on n) < 2
@@ -51,8 +51,8 @@ module _ (b : Block) (stride : ℕ) (m : Lent) (e : number b stride m ≡ 0) whe
   pub reference-in : b .inter ≡ true → b .reference < 8
   reference-in i = omega (arith, ltb-false 7 (b .reference) (rw i at (all .ref)))
 
-  pub sound : b .reference < 8 → b .mode < 2 → Sound b
-  sound r k =
+  pub fitting : Fitting b
+  fitting =
       let c = coded b (all .code) in
       let p = placed b (all .place) in
       record {
@@ -64,9 +64,10 @@ module _ (b : Block) (stride : ℕ) (m : Lent) (e : number b stride m ≡ 0) whe
         x-in = p .2;
         y-in = p .3;
         largest = largest;
-        reference = r;
-        mode = k;
       }
+
+  pub sound : b .reference < 8 → b .mode < 2 → Sound b
+  sound r k = record { fits = fitting; reference = r; mode = k }
 
   pub levels-long : (w4 b ≤ stride) × (4 * stride * h4 b ≤ length (m .levels))
   levels-long =

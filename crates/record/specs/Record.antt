@@ -9,7 +9,7 @@
 --   intraMasks, interMasks, lumaMasks, chromaMasks       the masks
 --   lumaAbove, lumaLeft, chromaAbove, chromaLeft         the contexts
 --   RecordAnswer                   number and memory after a call; tm are the tx_masks of an inter block
---   Sound b                        what the work behind the number asks of a block
+--   Fitting b, Sound b             what the work behind the number asks of a block, for its masks, and for its levels too
 use mathlib.Core.Bool.{Bool, true, false, cond, not}
 use mathlib.Core.List.{List, _++_}
 use mathlib.Core.Logic.{_⊎_}
@@ -173,7 +173,7 @@ pub record RecordAnswer (b : Block) (stride : ℕ) (values tm : List ℕ) (r : �
   pub above-uv : after .above-uv ≡ cond (eqb r 0) (chromaAbove b (before .above-uv)) (before .above-uv)
   pub left-uv : after .left-uv ≡ cond (eqb r 0) (chromaLeft b (before .left-uv)) (before .left-uv)
 
-pub record Sound (b : Block) : Type 0 where
+pub record Fitting (b : Block) : Type 0 where
   pub sides : Sides b
   pub tx : b .tx < 19
   pub uvtx : b .chroma ≡ true → b .uvtx < 19
@@ -182,5 +182,8 @@ pub record Sound (b : Block) : Type 0 where
   pub x-in : b .x .0 ≤ w4 b
   pub y-in : b .y .0 ≤ h4 b
   pub largest : b .inter ≡ true → (b .tx ≡ Max_Tx_Size_Rect (b .size)) ⊎ (b .tx ≡ 0)
+
+pub record Sound (b : Block) : Type 0 where
+  pub fits : Fitting b
   pub reference : b .reference < 8
   pub mode : b .mode < 2

@@ -19,7 +19,7 @@ ghost use Prim.Native.Nat.{_+_, _*_, _%_, _<_, _≤_};
 ghost use lib.ListN.{length};
 ghost use Rattle.units.specs.Frame.{frameRecords};
 ghost use Rattle.block.specs.Block.{w4, h4, bw4, bh4, cbw4, cbh4, seesLuma, seesChroma, Sides};
-ghost use Rattle.record.specs.Record.{recordAt, intraMasks, interMasks, chromaMasks, intraAbove, intraLeft, interAbove, interLeft, chromaAbove, chromaLeft, Sound};
+ghost use Rattle.record.specs.Record.{recordAt, intraMasks, interMasks, chromaMasks, intraAbove, intraLeft, interAbove, interLeft, chromaAbove, chromaLeft, Fitting};
 
 fn record_at(b: Block) -> usize
     requires { ⌜ Sides b × (b .x .0 ≤ w4 b) × (b .y .0 ≤ h4 b) ⌝ }
@@ -29,7 +29,7 @@ fn record_at(b: Block) -> usize
 }
 
 pub fn intra_masks(masks: &mut [u16], b: Block, above: &mut [u8], left: &mut [u8])
-    requires { ⌜ Sound b × (seesLuma b ≡ true) × (640 * frameRecords (w4 b) (h4 b) ≤ length (now masks)) × (bw4 b ≤ length (now above)) × (bh4 b ≤ length (now left)) ⌝ }
+    requires { ⌜ Fitting b × (seesLuma b ≡ true) × (640 * frameRecords (w4 b) (h4 b) ≤ length (now masks)) × (bw4 b ≤ length (now above)) × (bh4 b ≤ length (now left)) ⌝ }
     ensures masks { λ _. ⌜ now (masks .exit) ≡ intraMasks b (now (above .entry)) (now (left .entry)) (now (masks .entry)) ⌝ }
     ensures above { λ _. ⌜ now (above .exit) ≡ intraAbove b (now (above .entry)) ⌝ }
     ensures left { λ _. ⌜ now (left .exit) ≡ intraLeft b (now (left .entry)) ⌝ }
@@ -50,7 +50,7 @@ pub fn inter_masks(
     above: &mut [u8],
     left: &mut [u8],
 )
-    requires { ⌜ Sound b × (b .inter ≡ true) × (seesLuma b ≡ true) × (640 * frameRecords (w4 b) (h4 b) ≤ length (now masks)) × (bw4 b ≤ length (now above)) × (bh4 b ≤ length (now left)) ⌝ }
+    requires { ⌜ Fitting b × (b .inter ≡ true) × (seesLuma b ≡ true) × (640 * frameRecords (w4 b) (h4 b) ≤ length (now masks)) × (bw4 b ≤ length (now above)) × (bh4 b ≤ length (now left)) ⌝ }
     ensures masks { λ _. ⌜ now (masks .exit) ≡ interMasks b (now («tx_masks» .entry)) (now (above .entry)) (now (left .entry)) (now (masks .entry)) ⌝ }
     ensures above { λ _. ⌜ now (above .exit) ≡ interAbove b (now («tx_masks» .entry)) (now (above .entry)) ⌝ }
     ensures left { λ _. ⌜ now (left .exit) ≡ interLeft b (now («tx_masks» .entry)) (now (left .entry)) ⌝ }
@@ -76,7 +76,7 @@ pub fn inter_masks(
 }
 
 pub fn chroma_masks(masks: &mut [u16], b: Block, above: &mut [u8], left: &mut [u8])
-    requires { ⌜ Sound b × (seesChroma b ≡ true) × (640 * frameRecords (w4 b) (h4 b) ≤ length (now masks)) × (cbw4 b ≤ length (now above)) × (cbh4 b ≤ length (now left)) ⌝ }
+    requires { ⌜ Fitting b × (seesChroma b ≡ true) × (640 * frameRecords (w4 b) (h4 b) ≤ length (now masks)) × (cbw4 b ≤ length (now above)) × (cbh4 b ≤ length (now left)) ⌝ }
     ensures masks { λ _. ⌜ now (masks .exit) ≡ chromaMasks b (now (above .entry)) (now (left .entry)) (now (masks .entry)) ⌝ }
     ensures above { λ _. ⌜ now (above .exit) ≡ chromaAbove b (now (above .entry)) ⌝ }
     ensures left { λ _. ⌜ now (left .exit) ≡ chromaLeft b (now (left .entry)) ⌝ }

@@ -8,7 +8,7 @@ use Rattle.record.proofs.chroma_pair.Statement.{statement}
 use Rattle.record.proofs.chroma_pair.Tie as tie
 
 sees-chroma-requires : tie.Need-sees-chroma-requires
-sees-chroma-requires c κs = (c .before .before .before .before .pre .0 .sides, c .before .before .before .before .pre .0 .x-in, c .before .before .before .before .pre .0 .y-in)
+sees-chroma-requires c κs = (c .before .before .before .before .pre .0 .fits .sides, c .before .before .before .before .pre .0 .fits .x-in, c .before .before .before .before .pre .0 .fits .y-in)
 
 returns : tie.Need-returns
 returns c = rw (sym (c .before .sees-chroma .ensures) ∙ not-true _ (c .if1 .taken)) (refl, (refl, (refl, refl)))
@@ -19,7 +19,7 @@ chroma-levels-requires c κs = (c .before .before .before .before .before .befor
 chroma-masks-requires : tie.Need-chroma-masks-requires
 chroma-masks-requires c κs = let e = sym (c .before .before .before .before .before .before .before .before .sees-chroma .ensures) ∙ not-false _ (c .before .before .before .before .before .before .before .if1 .left) in
     let n = c .before .before .before .before .before .before .before .before .before .before .before .before .before .pre .4 e in
-    (c .before .before .before .before .before .before .before .before .before .before .before .before .before .pre .0, e, c .before .before .before .before .before .before .before .before .before .before .before .before .before .pre .3, n .0, n .1)
+    (c .before .before .before .before .before .before .before .before .before .before .before .before .before .pre .0 .fits, e, c .before .before .before .before .before .before .before .before .before .before .before .before .before .pre .3, n .0, n .1)
 
 same-length : tie.Need-same-length
 same-length c = search needs

@@ -23,7 +23,7 @@ chroma-unit-requires-2 : tie.Need-chroma-unit-requires-2
 chroma-unit-requires-2 c κs = rw (c .ss-ver .ensures) (ss-ver-le (c .before .before .before .before .args .b .layout))
 
 chroma-level-at-requires : tie.Need-chroma-level-at-requires
-chroma-level-at-requires c κs = (omega arith, omega arith, rw (c .before .before .chroma-unit .ensures, c .chroma-unit2 .ensures, c .before .before .before .ss-hor .ensures, c .before .ss-ver .ensures) (omega (arith, chroma-lines (c .before .before .before .before .before .args .b) (c .before .before .before .before .before .pre .0) (c .before .before .before .before .before .pre .1) (c .before .before .before .before .before .args .stride) _ (c .before .before .before .before .before .pre .2) (c .before .before .before .before .before .pre .3) 0 (chroma-seen (c .before .before .before .before .before .args .b) (c .before .before .before .before .before .pre .0) (c .before .before .before .before .before .pre .1) .1))))
+chroma-level-at-requires c κs = (omega arith, omega arith, rw (c .before .before .chroma-unit .ensures, c .chroma-unit2 .ensures, c .before .before .before .ss-hor .ensures, c .before .ss-ver .ensures) (omega (arith, chroma-lines (c .before .before .before .before .before .args .b) (c .before .before .before .before .before .pre .0 .fits) (c .before .before .before .before .before .pre .1) (c .before .before .before .before .before .args .stride) _ (c .before .before .before .before .before .pre .2) (c .before .before .before .before .before .pre .3) 0 (chroma-seen (c .before .before .before .before .before .args .b) (c .before .before .before .before .before .pre .0 .fits) (c .before .before .before .before .before .pre .1) .1))))
 
 value-requires : tie.Need-value-requires
 value-requires c κs = (omega arith, c .before .before .before .before .before .before .pre .0 .reference, c .before .before .before .before .before .before .pre .0 .mode)
@@ -32,13 +32,13 @@ value-requires-2 : tie.Need-value-requires-2
 value-requires-2 c κs = (omega arith, c .before .before .before .before .before .before .before .pre .0 .reference, c .before .before .before .before .before .before .before .pre .0 .mode)
 
 chroma-wide-requires : tie.Need-chroma-wide-requires
-chroma-wide-requires c κs = (c .before .before .before .before .before .before .before .before .pre .0 .sides, c .before .before .before .before .before .before .before .before .pre .0 .x-in)
+chroma-wide-requires c κs = (c .before .before .before .before .before .before .before .before .pre .0 .fits .sides, c .before .before .before .before .before .before .before .before .pre .0 .fits .x-in)
 
 chroma-high-requires : tie.Need-chroma-high-requires
-chroma-high-requires c κs = (c .before .before .before .before .before .before .before .before .before .pre .0 .sides, c .before .before .before .before .before .before .before .before .before .pre .0 .y-in)
+chroma-high-requires c κs = (c .before .before .before .before .before .before .before .before .before .pre .0 .fits .sides, c .before .before .before .before .before .before .before .before .before .pre .0 .fits .y-in)
 
 fill-levels-requires : tie.Need-fill-levels-requires
-fill-levels-requires c κs = rw (c .before .before .before .before .before .chroma-level-at .ensures, c .before .before .before .before .before .before .before .before .chroma-unit .ensures, c .before .before .before .before .before .before .chroma-unit2 .ensures, c .before .before .before .before .before .before .before .before .before .ss-hor .ensures, c .before .before .before .before .before .before .before .ss-ver .ensures, c .before .before .chroma-wide .ensures, c .before .chroma-high .ensures) (chroma-seen (c .before .before .before .before .before .before .before .before .before .before .before .args .b) (c .before .before .before .before .before .before .before .before .before .before .before .pre .0) (c .before .before .before .before .before .before .before .before .before .before .before .pre .1) .0, chroma-lines (c .before .before .before .before .before .before .before .before .before .before .before .args .b) (c .before .before .before .before .before .before .before .before .before .before .before .pre .0) (c .before .before .before .before .before .before .before .before .before .before .before .pre .1) (c .before .before .before .before .before .before .before .before .before .before .before .args .stride) _ (c .before .before .before .before .before .before .before .before .before .before .before .pre .2) (c .before .before .before .before .before .before .before .before .before .before .before .pre .3))
+fill-levels-requires c κs = rw (c .before .before .before .before .before .chroma-level-at .ensures, c .before .before .before .before .before .before .before .before .chroma-unit .ensures, c .before .before .before .before .before .before .chroma-unit2 .ensures, c .before .before .before .before .before .before .before .before .before .ss-hor .ensures, c .before .before .before .before .before .before .before .ss-ver .ensures, c .before .before .chroma-wide .ensures, c .before .chroma-high .ensures) (chroma-seen (c .before .before .before .before .before .before .before .before .before .before .before .args .b) (c .before .before .before .before .before .before .before .before .before .before .before .pre .0 .fits) (c .before .before .before .before .before .before .before .before .before .before .before .pre .1) .0, chroma-lines (c .before .before .before .before .before .before .before .before .before .before .before .args .b) (c .before .before .before .before .before .before .before .before .before .before .before .pre .0 .fits) (c .before .before .before .before .before .before .before .before .before .before .before .pre .1) (c .before .before .before .before .before .before .before .before .before .before .before .args .stride) _ (c .before .before .before .before .before .before .before .before .before .before .before .pre .2) (c .before .before .before .before .before .before .before .before .before .before .before .pre .3))
 
 same-length : tie.Need-same-length
 same-length c = search needs

@@ -10,7 +10,7 @@ use Rattle.record.proofs.levels.luma_levels.Statement.{statement}
 use Rattle.record.proofs.levels.luma_levels.Tie as tie
 
 luma-level-at-requires : tie.Need-luma-level-at-requires
-luma-level-at-requires c κs = (omega arith, omega (arith, luma-lines (c .before .args .b) (c .before .pre .0) (c .before .pre .1) (c .before .args .stride) _ (c .before .pre .2) (c .before .pre .3) 0 (luma-seen (c .before .args .b) (c .before .pre .0) (c .before .pre .1) .1)))
+luma-level-at-requires c κs = (omega arith, omega (arith, luma-lines (c .before .args .b) (c .before .pre .0 .fits) (c .before .pre .1) (c .before .args .stride) _ (c .before .pre .2) (c .before .pre .3) 0 (luma-seen (c .before .args .b) (c .before .pre .0 .fits) (c .before .pre .1) .1)))
 
 value-requires : tie.Need-value-requires
 value-requires c κs = (omega arith, c .before .before .pre .0 .reference, c .before .before .pre .0 .mode)
@@ -19,13 +19,13 @@ value-requires-2 : tie.Need-value-requires-2
 value-requires-2 c κs = (omega arith, c .before .before .before .pre .0 .reference, c .before .before .before .pre .0 .mode)
 
 luma-wide-requires : tie.Need-luma-wide-requires
-luma-wide-requires c κs = (c .before .before .before .before .pre .0 .sides, c .before .before .before .before .pre .0 .x-in)
+luma-wide-requires c κs = (c .before .before .before .before .pre .0 .fits .sides, c .before .before .before .before .pre .0 .fits .x-in)
 
 luma-high-requires : tie.Need-luma-high-requires
-luma-high-requires c κs = (c .before .before .before .before .before .pre .0 .sides, c .before .before .before .before .before .pre .0 .y-in)
+luma-high-requires c κs = (c .before .before .before .before .before .pre .0 .fits .sides, c .before .before .before .before .before .pre .0 .fits .y-in)
 
 fill-levels-requires : tie.Need-fill-levels-requires
-fill-levels-requires c κs = rw (c .before .before .before .before .before .luma-level-at .ensures, c .before .before .luma-wide .ensures, c .before .luma-high .ensures) (luma-seen (c .before .before .before .before .before .before .before .args .b) (c .before .before .before .before .before .before .before .pre .0) (c .before .before .before .before .before .before .before .pre .1) .0, luma-lines (c .before .before .before .before .before .before .before .args .b) (c .before .before .before .before .before .before .before .pre .0) (c .before .before .before .before .before .before .before .pre .1) (c .before .before .before .before .before .before .before .args .stride) _ (c .before .before .before .before .before .before .before .pre .2) (c .before .before .before .before .before .before .before .pre .3))
+fill-levels-requires c κs = rw (c .before .before .before .before .before .luma-level-at .ensures, c .before .before .luma-wide .ensures, c .before .luma-high .ensures) (luma-seen (c .before .before .before .before .before .before .before .args .b) (c .before .before .before .before .before .before .before .pre .0 .fits) (c .before .before .before .before .before .before .before .pre .1) .0, luma-lines (c .before .before .before .before .before .before .before .args .b) (c .before .before .before .before .before .before .before .pre .0 .fits) (c .before .before .before .before .before .before .before .pre .1) (c .before .before .before .before .before .before .before .args .stride) _ (c .before .before .before .before .before .before .before .pre .2) (c .before .before .before .before .before .before .before .pre .3))
 
 same-length : tie.Need-same-length
 same-length c = search needs
