@@ -2,14 +2,16 @@
 use mathlib.Core.List.{List}
 use mathlib.Core.Path.{_≡_, refl, sym, _∙_}
 use Prim.Native.Nat.{ℕ}
-use borrow.Author.Tests.{ne-eqb}
+use borrow.Author.Tests.{eq-eqb, ne-eqb}
 use Rattle.loops.specs.Exactly.{Exactly}
 use Rattle.block.specs.declared.Block.{Block}
 use Rattle.block.specs.Block.{Lent, lent}
 use Rattle.block.specs.Tests.{number}
 use Rattle.block.proofs.Numbers.{exactly-4, exactly-5, exactly-6, exactly-7, exactly-0}
 use Rattle.record.specs.Record.{RecordAnswer}
+use Rattle.record.specs.Recorded.{Stored}
 use Rattle.record.specs.Promises.{Promised, Promises}
+use Rattle.record.proofs.Accepted as accepted
 
 -- lent memory is its six parts
 same : (m n : Lent) → m .levels ≡ n .levels → m .masks ≡ n .masks → m .above ≡ n .above → m .left ≡ n .left → m .above-uv ≡ n .above-uv → m .left-uv ≡ n .left-uv
@@ -28,7 +30,14 @@ module _ {b : Block} {stride r : ℕ} {values tm : List ℕ} {before after : Len
       let z = ne-eqb r 0 n in
       same after before (rw z at (a .levels)) (rw z at (a .masks)) (rw z at (a .above)) (rw z at (a .left)) (rw z at (a .above-uv)) (rw z at (a .left-uv))
 
-  promised : Promised b stride r before after
+  done : r ≡ 0 → Stored b stride values tm before after
+  done e =
+      let ok = sym (a .code) ∙ e in
+      let z = eq-eqb r 0 e in
+      let p = same after (accepted.after b stride before ok values tm) (rw z at (a .levels)) (rw z at (a .masks)) (rw z at (a .above)) (rw z at (a .left)) (rw z at (a .above-uv)) (rw z at (a .left-uv)) in
+      rw p (accepted.stored b stride before ok values tm)
+
+  promised : Promised b stride values tm r before after
   promised =
       record {
         four = number-is (exactly-4 b stride before);
@@ -37,6 +46,7 @@ module _ {b : Block} {stride r : ℕ} {values tm : List ℕ} {before after : Len
         seven = number-is (exactly-7 b stride before);
         zero = number-is (exactly-0 b stride before);
         refused = kept;
+        accepted = done;
       }
 
 pub promises : Promises
