@@ -1,20 +1,20 @@
 -- An accepted block leaves its recording in the frame's buffers: mask_edges' promises in its record, whose hypotheses the number 0 gives, lifted to the frame.
-use mathlib.Core.Bool.{Bool, true, false, cond, _&&_, _||_, or-assoc}
+use mathlib.Core.Bool.{Bool, true, false, cond, or-assoc}
 use mathlib.Core.List.{List}
-use mathlib.Core.Path.{_≡_, refl, sym, ap, _∙_}
-use Prim.Native.Nat.{ℕ, zero, suc, _+_, _*_, _%_, _<_, _≤_}
+use mathlib.Core.Path.{_≡_, refl, _∙_}
+use Prim.Native.Nat.{ℕ, zero, suc, _+_, _*_, _%_, _≤_}
 use native.Mathlib.Omega.{arith}
 use lib.ListN.{length, take, drop, length-set}
 use Rattle.bits.specs.Mark.{isSet}
 use Rattle.units.specs.Frame.{recordOf}
-use Rattle.units.specs.Memory.{lumaBit, halfUnits}
+use Rattle.units.specs.Memory.{lumaBit}
 use Rattle.units.proofs.Places.{ss-hor-le, ss-ver-le}
-use Rattle.mask_edges.specs.Recording.{Room, Recorded, Contexts, chromaBits, intraBlock, interBlock}
-use Rattle.mask_edges.specs.Folds.{stores, gridMasks, cellMasks}
+use Rattle.mask_edges.specs.Recording.{Room, Contexts, chromaBits, intraBlock, interBlock}
+use Rattle.mask_edges.specs.Folds.{stores}
 use Rattle.mask_edges.specs.Recording as recording
 use Rattle.mask_edges.proofs.Theorems as mask-edges
 use Rattle.block.specs.declared.Block.{Block}
-use Rattle.block.specs.Block.{w4, h4, ssx, ssy, bw4, bh4, cbw4, cbh4, seesLuma, seesChroma, Lent, lent}
+use Rattle.block.specs.Block.{w4, ssx, ssy, bw4, bh4, cbw4, cbh4, seesLuma, seesChroma, Lent, lent}
 use Rattle.block.specs.Tests.{number}
 use Rattle.record.specs.Record.{cbx4, cby4, lumaLevels, chromaLevels, intraMasks, interMasks, lumaMasks, chromaMasks, intraAbove, intraLeft, interAbove, interLeft, lumaAbove, lumaLeft, chromaAbove, chromaLeft, Fitting}
 use Rattle.record.specs.Recorded.{lumaBlock, chromaBlock, inFrame, lumaEdge, chromaEdge, Masks, Stored}
@@ -138,16 +138,14 @@ module _ (b : Block) (stride : ℕ) (m : Lent) (ok : number b stride m ≡ 0) wh
         record {
           levels = block-levels b s stride values (m .levels) (levels-long b stride m ok .0) (levels-long b stride m ok .1);
           masks = masks;
-          contexts = (
-            either-long (b .inter) (interAbove b tm (m .above)) (intraAbove b (m .above)) (m .above) (stores-long (seesLuma b) _ _ _) (stores-long (seesLuma b) _ _ _),
-            either-long (b .inter) (interLeft b tm (m .left)) (intraLeft b (m .left)) (m .left) (stores-long (seesLuma b) _ _ _) (stores-long (seesLuma b) _ _ _),
-            stores-long (seesChroma b) _ _ (m .above-uv),
-            stores-long (seesChroma b) _ _ (m .left-uv),
-          );
           luma = luma-contexts tm;
-          no-luma = λ e. rw e (either (b .inter) (m .above), either (b .inter) (m .left));
+          luma-stay = λ e. rw e (either (b .inter) (m .above), either (b .inter) (m .left));
           chroma = chroma-contexts;
-          no-chroma = λ e. rw e (refl, refl);
+          chroma-stay = λ e. rw e (refl, refl);
+          above-long = either-long (b .inter) (interAbove b tm (m .above)) (intraAbove b (m .above)) (m .above) (stores-long (seesLuma b) _ _ _) (stores-long (seesLuma b) _ _ _);
+          left-long = either-long (b .inter) (interLeft b tm (m .left)) (intraLeft b (m .left)) (m .left) (stores-long (seesLuma b) _ _ _) (stores-long (seesLuma b) _ _ _);
+          above-uv-long = stores-long (seesChroma b) _ _ (m .above-uv);
+          left-uv-long = stores-long (seesChroma b) _ _ (m .left-uv);
         }
       where
         either : (i : Bool) (c : List ℕ) → cond i c c ≡ c

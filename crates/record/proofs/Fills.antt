@@ -126,6 +126,12 @@ module _ (given : Bool) (stride x y w h base : ℕ) (f : ℕ → ℕ) (l : List 
 
 -- ---- a block
 
+from : {u n : ℕ} → u ≤ n → u + (n - u) ≡ n
+from p = omega arith
+
+within : {u n w : ℕ} → (u ≤ n) × (n < u + w) → n - u < w
+within p = omega arith
+
 other-kind : (stride x y kind x′ y′ k : ℕ) → kind < 2 → k < 2 → ¬ (levelAt stride x y kind ≡ levelAt stride x′ y′ (2 + k))
 unfolding levelAt
 other-kind stride x y kind x′ y′ k p q e = omega arith
@@ -159,22 +165,13 @@ module _ (b : Block) (s : Fitting b) (stride : ℕ) (values ls : List ℕ) (wide
   units-stored : (x y kind : ℕ) → Seen b x y kind → getD after (levelAt stride x y kind) 0 ≡ valueOf b values kind
   units-stored x y kind (luma h v) =
       both .kept (levelAt stride x y kind) (λ g i j k p q r. other-kind stride x y kind _ _ k h r)
-      ∙ rw (from (v .across .0), from (v .down .0), low) at (luma-area .stored refl (x - b .x .0) (y - b .y .0) kind (omega (arith, v .across)) (omega (arith, v .down)) h)
+      ∙ rw (from (v .across .0), from (v .down .0), low) at (luma-area .stored refl (x - b .x .0) (y - b .y .0) kind (within (v .across)) (within (v .down)) h)
     where
-      from : {u n : ℕ} → u ≤ n → u + (n - u) ≡ n
-      from p = omega arith
-
       low : 0 + kind ≡ kind
       low = omega arith
   units-stored x y kind (chroma h v) =
       rw (from (v .across .0), from (v .down .0), from (h .0)) at
-      (both .stored (v .given) (x - chromaUnit (ssx b) (b .x .0)) (y - chromaUnit (ssy b) (b .y .0)) (kind - 2) (less (v .across)) (less (v .down)) (omega arith))
-    where
-      from : {u n : ℕ} → u ≤ n → u + (n - u) ≡ n
-      from p = omega arith
-
-      less : {u n w : ℕ} → (u ≤ n) × (n < u + w) → n - u < w
-      less p = omega arith
+      (both .stored (v .given) (x - chromaUnit (ssx b) (b .x .0)) (y - chromaUnit (ssy b) (b .y .0)) (kind - 2) (within (v .across)) (within (v .down)) (omega arith))
 
   pub block-levels : Levels b stride values ls after
   block-levels =

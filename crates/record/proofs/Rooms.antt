@@ -1,7 +1,7 @@
 -- A block's visible units lie within the frame, its record and the level bytes: from the place's being a multiple of the block's sides,
 -- at each code of the tables and at ss 0 and 1.
-use mathlib.Core.Bool.{Bool, true, _&&_, and-eq-true-iff}
-use mathlib.Core.Logic.{_⊎_, ⊎-elim}
+use mathlib.Core.Bool.{true, _&&_, and-eq-true-iff}
+use mathlib.Core.Logic.{⊎-elim}
 use mathlib.Core.Path.{_≡_, sym, subst}
 use Prim.Native.Nat.{ℕ, _+_, _-_, _*_, _/_, _%_, _<_, _≤_, min}
 use native.Mathlib.Nat.{mul-comm, add-mul}
@@ -10,7 +10,7 @@ use lib.Dec.{ltb}
 use borrow.Author.Tests.{ltb-true}
 use Rattle.loops.proofs.Lists.{row-in}
 use Rattle.loops.proofs.Tables.{each-at}
-use Rattle.standard.specs.Sizes.{Num_4x4_Blocks_Wide, Num_4x4_Blocks_High, Tx_Wide, Tx_High, Max_Tx_Size_Rect}
+use Rattle.standard.specs.Sizes.{Num_4x4_Blocks_Wide, Num_4x4_Blocks_High, Tx_Wide, Tx_High}
 use Rattle.units.specs.Units.{chromaUnit, chromaUnits}
 use Rattle.units.specs.Frame.{records, frameRecords, recordOf}
 use Rattle.units.specs.Memory.{levelAt, halfUnits}

@@ -2,7 +2,7 @@
 use mathlib.Core.Bool.{Bool, true, false, not, _&&_, _||_, false≢true}
 use mathlib.Core.List.{List}
 use mathlib.Core.Logic.{_⊎_, inl, inr, by-cases}
-use mathlib.Core.Path.{_≡_, refl, sym}
+use mathlib.Core.Path.{_≡_, sym}
 use Prim.Native.Nat.{ℕ, _*_, _<_, _≤_}
 use native.Mathlib.Decide.{ℕ-discrete}
 use native.Mathlib.Omega.{arith}
@@ -17,7 +17,7 @@ use Rattle.units.specs.Memory.{levelsOk, masksOk}
 use Rattle.units.proofs.Tests.{reflects-levels, reflects-masks}
 use Rattle.block.specs.declared.Block.{Block}
 use Rattle.block.specs.Block.{w4, h4, bw4, bh4, cbw4, cbh4, seesLuma, seesChroma, Lent}
-use Rattle.block.specs.Tests.{maxTxBad, refBad, contextBad, number}
+use Rattle.block.specs.Tests.{contextBad, number}
 use Rattle.block.proofs.Passed.{or-off, coded, placed, sides}
 use Rattle.block.proofs.Free.{Passed, free}
 use Rattle.record.specs.Record.{on, Fitting, Sound}

@@ -1,9 +1,9 @@
 -- The turns of the code's loops and what its calls come to, by the laws of `upTo` and of a part of a list that was changed.
-use mathlib.Core.Bool.{Bool, true, false}
+use mathlib.Core.Bool.{true, false}
 use mathlib.Core.List.{List}
 use mathlib.Core.Path.{_≡_, refl, _∙_}
 use Prim.Native.Nat.{ℕ, _+_, _-_, _*_, _%_}
-use lib.ListN.{getD, set, take, drop}
+use lib.ListN.{set, take, drop}
 use borrow.Rule.Slice.PartMut.{putMid}
 use Rattle.loops.proofs.Runs.{upTo-again}
 use Rattle.loops.proofs.Lists.{part-put}
@@ -13,7 +13,7 @@ use Rattle.units.specs.Sizes.{lumaClass, chromaClass}
 use Rattle.mask_edges.specs.Folds.{columnsOf, rowsOf, gridMasks, cellMasks, tables}
 use Rattle.block.specs.declared.Block.{Block}
 use Rattle.block.specs.Block.{ssx, ssy, bw4, bh4, cbw4, cbh4, seesLuma, seesChroma}
-use Rattle.record.specs.Record.{valueOf, fillRow, fillLevels, recordAt, inRecord, cbx4, cby4, lumaLevels, chromaLevels, intraMasks, interMasks, chromaMasks}
+use Rattle.record.specs.Record.{valueOf, fillRow, fillLevels, recordAt, inRecord, lumaLevels, chromaLevels, intraMasks, interMasks, chromaMasks}
 
 -- ---- levels
 
@@ -64,7 +64,8 @@ module _ (b : Block) (at w h : ℕ) (a l xs ys : List ℕ) (ea : at ≡ recordAt
       rw e (in-record at xs ys (cellMasks (columnsOf false 16 (b .y .0 % 32) (b .x .0 % 32) w h) (rowsOf false 16 (b .y .0 % 32) (b .x .0 % 32) w h) (tables tm (b .tx) w h) (b .skip) a l) g
       ∙ rw (ea, ew, eh) refl)
 
-  pub chroma-put : (hor ver cx cy : ℕ) → seesChroma b ≡ true → w ≡ cbw4 b → h ≡ cbh4 b → hor ≡ ssx b → ver ≡ ssy b → cx ≡ cbx4 b → cy ≡ cby4 b
+  pub chroma-put : (hor ver cx cy : ℕ) → seesChroma b ≡ true → w ≡ cbw4 b → h ≡ cbh4 b → hor ≡ ssx b → ver ≡ ssy b → cx ≡ chromaUnit hor (b .x .0 % 32)
+      → cy ≡ chromaUnit ver (b .y .0 % 32)
       → ys ≡ gridMasks (columnsOf true (halfUnits ver) cy cx w h) (rowsOf true (halfUnits hor) cy cx w h) chromaClass (b .uvtx) (b .skip) a l (take (at + 640 - at) (drop at xs))
       → putMid at (at + 640 - at) xs ys ≡ chromaMasks b a l xs
   chroma-put hor ver cx cy e ew eh ehor ever ex ey g =

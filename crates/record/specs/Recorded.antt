@@ -3,8 +3,9 @@
 --   Seen                     in the plane of the level byte `kind`
 --   Levels                   the value of each kind at each visible unit, and every other byte as before
 --   lumaBlock, chromaBlock   the block in its record of masks
---   inFrame                  the bit of an edge in the frame's masks: a record has 640 words of 16 bits
---   lumaEdge, chromaEdge     the bit e is that of an edge of the block
+--   inFrame                  the bit of an edge in the frame's masks, records being of 640 words of 16 bits
+--   edgeOf                   e is the bit of an edge of a block, in either pass
+--   lumaEdge, chromaEdge     of the recorded block, in the frame's masks; a plane with no visible unit has none
 --   Masks                    the bits of the block's edges are set, and no other changes
 --   Stored                   all that is stored
 use mathlib.Core.Bool.{Bool, true, false, cond, _&&_, _||_}
@@ -74,9 +75,12 @@ pub record Masks (b : Block) (tm : List ℕ) (before : Lent) (after : List ℕ) 
 pub record Stored (b : Block) (stride : ℕ) (values tm : List ℕ) (before after : Lent) : Type 0 where
   pub levels : Levels b stride values (before .levels) (after .levels)
   pub masks : Masks b tm before (after .masks)
-  pub contexts : (length (after .above) ≡ length (before .above)) × (length (after .left) ≡ length (before .left)) × (length (after .above-uv) ≡ length (before .above-uv)) × (length (after .left-uv) ≡ length (before .left-uv))
-  -- in a plane in which units are recorded
+  -- the contexts of a plane in which units are recorded; else they stay
   pub luma : seesLuma b ≡ true → Contexts (lumaBlock b tm before) (after .above) (after .left)
-  pub no-luma : seesLuma b ≡ false → (after .above ≡ before .above) × (after .left ≡ before .left)
+  pub luma-stay : seesLuma b ≡ false → (after .above ≡ before .above) × (after .left ≡ before .left)
   pub chroma : seesChroma b ≡ true → Contexts (chromaBlock b before) (after .above-uv) (after .left-uv)
-  pub no-chroma : seesChroma b ≡ false → (after .above-uv ≡ before .above-uv) × (after .left-uv ≡ before .left-uv)
+  pub chroma-stay : seesChroma b ≡ false → (after .above-uv ≡ before .above-uv) × (after .left-uv ≡ before .left-uv)
+  pub above-long : length (after .above) ≡ length (before .above)
+  pub left-long : length (after .left) ≡ length (before .left)
+  pub above-uv-long : length (after .above-uv) ≡ length (before .above-uv)
+  pub left-uv-long : length (after .left-uv) ≡ length (before .left-uv)

@@ -1,25 +1,31 @@
+-- By whether the pair is given and chroma units are seen.
 use borrow.Author.Tests.{not-true, not-false}
--- TODO
 use borrow.Author.Needs.{needs}
-use native.Mathlib.Omega.{arith}
-use mathlib.Core.Path.{_≡_, refl, sym, ap, _∙_}
-use Prim.Native.Nat.{ℕ, _+_, _-_, _*_, _≤_, _<_}
+use mathlib.Core.Path.{refl, sym, _∙_}
 use Rattle.record.proofs.chroma_pair.Statement.{statement}
 use Rattle.record.proofs.chroma_pair.Tie as tie
 
 sees-chroma-requires : tie.Need-sees-chroma-requires
-sees-chroma-requires c κs = (c .before .before .before .before .pre .0 .fits .sides, c .before .before .before .before .pre .0 .fits .x-in, c .before .before .before .before .pre .0 .fits .y-in)
+sees-chroma-requires c κs =
+    let c₄ = c .before .before .before .before in
+    (c₄ .pre .0 .fits .sides, c₄ .pre .0 .fits .x-in, c₄ .pre .0 .fits .y-in)
 
 returns : tie.Need-returns
 returns c = rw (sym (c .before .sees-chroma .ensures) ∙ not-true _ (c .if1 .taken)) (refl, (refl, (refl, refl)))
 
 chroma-levels-requires : tie.Need-chroma-levels-requires
-chroma-levels-requires c κs = (c .before .before .before .before .before .before .before .pre .0, sym (c .before .before .sees-chroma .ensures) ∙ not-false _ (c .before .if1 .left), c .before .before .before .before .before .before .before .pre .1, c .before .before .before .before .before .before .before .pre .2)
+chroma-levels-requires c κs =
+    let c₇ = c .before .before .before .before .before .before .before in
+    (c₇ .pre .0, sym (c .before .before .sees-chroma .ensures) ∙ not-false _ (c .before .if1 .left), c₇ .pre .1, c₇ .pre .2)
 
 chroma-masks-requires : tie.Need-chroma-masks-requires
-chroma-masks-requires c κs = let e = sym (c .before .before .before .before .before .before .before .before .sees-chroma .ensures) ∙ not-false _ (c .before .before .before .before .before .before .before .if1 .left) in
-    let n = c .before .before .before .before .before .before .before .before .before .before .before .before .before .pre .4 e in
-    (c .before .before .before .before .before .before .before .before .before .before .before .before .before .pre .0 .fits, e, c .before .before .before .before .before .before .before .before .before .before .before .before .before .pre .3, n .0, n .1)
+chroma-masks-requires c κs =
+    let c₇ = c .before .before .before .before .before .before .before in
+    let c₈ = c₇ .before in
+    let c₁₃ = c₈ .before .before .before .before .before in
+    let e = sym (c₈ .sees-chroma .ensures) ∙ not-false _ (c₇ .if1 .left) in
+    let n = c₁₃ .pre .4 e in
+    (c₁₃ .pre .0 .fits, e, c₁₃ .pre .3, n .0, n .1)
 
 same-length : tie.Need-same-length
 same-length c = search needs
@@ -34,7 +40,10 @@ same-length-4 : tie.Need-same-length-4
 same-length-4 c = search needs
 
 returns-2 : tie.Need-returns-2
-returns-2 c = (c .before .before .before .before .before .before .before .before .before .before .before .before .chroma-levels .ensures, c .before .before .before .before .before .before .chroma-masks .ensures)
+returns-2 c =
+    let c₆ = c .before .before .before .before .before .before in
+    let c₁₂ = c₆ .before .before .before .before .before .before in
+    (c₁₂ .chroma-levels .ensures, c₆ .chroma-masks .ensures)
 
 pub chroma-pair-spec : {M : Type 1} → statement M
 chroma-pair-spec =

@@ -1,25 +1,31 @@
+-- By whether luma units are seen.
 use borrow.Author.Tests.{not-true, not-false}
--- TODO
 use borrow.Author.Needs.{needs}
-use native.Mathlib.Omega.{arith}
-use mathlib.Core.Path.{_≡_, refl, sym, ap, _∙_}
-use Prim.Native.Nat.{ℕ, _+_, _-_, _*_, _≤_, _<_}
+use mathlib.Core.Path.{refl, sym, _∙_}
 use Rattle.record.proofs.inter_luma.Statement.{statement}
 use Rattle.record.proofs.inter_luma.Tie as tie
 
 sees-luma-requires : tie.Need-sees-luma-requires
-sees-luma-requires c κs = (c .before .before .before .before .pre .0 .fits .sides, c .before .before .before .before .pre .0 .fits .x-in, c .before .before .before .before .pre .0 .fits .y-in)
+sees-luma-requires c κs =
+    let c₄ = c .before .before .before .before in
+    (c₄ .pre .0 .fits .sides, c₄ .pre .0 .fits .x-in, c₄ .pre .0 .fits .y-in)
 
 returns : tie.Need-returns
 returns c = rw (sym (c .before .sees-luma .ensures) ∙ not-true _ (c .if1 .taken)) (refl, (refl, (refl, refl)))
 
 luma-levels-requires : tie.Need-luma-levels-requires
-luma-levels-requires c κs = (c .before .before .before .before .before .before .before .pre .0, sym (c .before .before .sees-luma .ensures) ∙ not-false _ (c .before .if1 .left), c .before .before .before .before .before .before .before .pre .1, c .before .before .before .before .before .before .before .pre .2)
+luma-levels-requires c κs =
+    let c₇ = c .before .before .before .before .before .before .before in
+    (c₇ .pre .0, sym (c .before .before .sees-luma .ensures) ∙ not-false _ (c .before .if1 .left), c₇ .pre .1, c₇ .pre .2)
 
 inter-masks-requires : tie.Need-inter-masks-requires
-inter-masks-requires c κs = let e = sym (c .before .before .before .before .before .before .before .before .sees-luma .ensures) ∙ not-false _ (c .before .before .before .before .before .before .before .if1 .left) in
-    let n = c .before .before .before .before .before .before .before .before .before .before .before .before .before .pre .4 e in
-    (c .before .before .before .before .before .before .before .before .before .before .before .before .before .pre .0 .fits, c .before .before .before .before .before .before .before .before .before .before .before .before .before .pre .5, e, c .before .before .before .before .before .before .before .before .before .before .before .before .before .pre .3, n .0, n .1)
+inter-masks-requires c κs =
+    let c₇ = c .before .before .before .before .before .before .before in
+    let c₈ = c₇ .before in
+    let c₁₃ = c₈ .before .before .before .before .before in
+    let e = sym (c₈ .sees-luma .ensures) ∙ not-false _ (c₇ .if1 .left) in
+    let n = c₁₃ .pre .4 e in
+    (c₁₃ .pre .0 .fits, c₁₃ .pre .5, e, c₁₃ .pre .3, n .0, n .1)
 
 same-length : tie.Need-same-length
 same-length c = search needs
@@ -34,7 +40,10 @@ same-length-4 : tie.Need-same-length-4
 same-length-4 c = search needs
 
 returns-2 : tie.Need-returns-2
-returns-2 c = (c .before .before .before .before .before .before .before .before .before .before .before .before .luma-levels .ensures, c .before .before .before .before .before .before .inter-masks .ensures)
+returns-2 c =
+    let c₆ = c .before .before .before .before .before .before in
+    let c₁₂ = c₆ .before .before .before .before .before .before in
+    (c₁₂ .luma-levels .ensures, c₆ .inter-masks .ensures)
 
 pub inter-luma-spec : {M : Type 1} → statement M
 inter-luma-spec =

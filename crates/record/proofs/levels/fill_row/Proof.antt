@@ -1,11 +1,11 @@
-use Rattle.record.proofs.Stores.{row-none, row-step, levels-none, levels-step}
-use Rattle.record.specs.Record.{fillRow, fillLevels}
+-- A row of units by its invariant: the bytes of the units passed.
 use lib.ListN.{length, length-set}
--- TODO
 use borrow.Author.Needs.{needs}
 use native.Mathlib.Omega.{arith}
-use mathlib.Core.Path.{_≡_, refl, sym, ap, _∙_}
-use Prim.Native.Nat.{ℕ, _+_, _-_, _*_, _≤_, _<_}
+use mathlib.Core.Path.{_≡_, refl}
+use Prim.Native.Nat.{_-_, _≤_}
+use Rattle.record.proofs.Stores.{row-none, row-step}
+use Rattle.record.specs.Record.{fillRow}
 use Rattle.record.proofs.levels.fill_row.Statement.{statement}
 use Rattle.record.proofs.levels.fill_row.Tie as tie
 

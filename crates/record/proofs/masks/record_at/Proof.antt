@@ -1,11 +1,10 @@
-use Rattle.units.specs.Frame.{records}
-use Rattle.loops.proofs.Lists.{prod-le}
+-- The record of a unit of the largest frame is small enough for its place to fit.
 use Prim.Native.Nat.{_/_}
--- TODO
 use borrow.Author.Needs.{needs}
 use native.Mathlib.Omega.{arith}
-use mathlib.Core.Path.{_≡_, refl, sym, ap, _∙_}
-use Prim.Native.Nat.{ℕ, _+_, _-_, _*_, _≤_, _<_}
+use mathlib.Core.Path.{refl}
+use Rattle.units.specs.Frame.{records}
+use Rattle.loops.proofs.Lists.{prod-le}
 use Rattle.record.proofs.masks.record_at.Statement.{statement}
 use Rattle.record.proofs.masks.record_at.Tie as tie
 
