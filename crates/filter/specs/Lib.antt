@@ -2,3 +2,5 @@
 pub mod Filter
 -- what filtering it asks
 pub mod Ready
+-- one line of its units, as it is walked
+pub mod Lines

@@ -1,0 +1,163 @@
+-- What the leaves of a line answer: words and level bytes by the kind of plane and the count of halves, and products of bounds.
+use mathlib.Core.Path.{_≡_, refl, ap, ap₂, _∙_}
+use mathlib.Core.Bool.{Bool, true, false, cond}
+use mathlib.Core.List.{List}
+use mathlib.Core.Logic.{_≢_}
+use Prim.Native.Nat.{ℕ, suc, _+_, _*_, _/_, _^_, _≤_, _<_}
+use native.Mathlib.Numerals.{add-one}
+use native.Mathlib.Omega.{arith}
+use lib.Bits.{bitOr}
+use lib.Dec.{eqb}
+use lib.ListN.{getD}
+use borrow.Author.Tests.{eq-eqb, ne-eqb, lt-ltb, le-ltb}
+use Rattle.loops.proofs.Lists.{prod-le}
+use Rattle.plane.specs.Line.{Pass, columns, rows, lineStep, sampleStep}
+use Rattle.units.specs.Frame.{records}
+use Rattle.units.specs.Memory.{levelAt}
+use Rattle.edges.specs.Edges.{passNo, half}
+use Rattle.gap.specs.Lines.{recordRow}
+use Rattle.gap.specs.Track.{stepOf, startOf}
+use Rattle.gap.proofs.Frames.{side-le, start-in}
+use Rattle.gap.proofs.Masks.{along}
+use Rattle.gap.proofs.Shapes.{row-lines}
+use Rattle.filter.specs.declared.Component.{Component}
+use Rattle.filter.specs.declared.lines.Line.{Line}
+use Rattle.filter.specs.Filter.{gridOf, kindOf}
+use Rattle.filter.specs.Lines.{leftOf, topOf, acrossOf, unitIn, maskAt, firstHalf, halvesOf, halvesAt, classAt, wordOf, alongStep, backStep, lineIn, Counted}
+
+pub left-le : (ssx g : ℕ) → ssx ≤ 1 → g ≤ 128 → g * (32 / 2 ^ ssx) ≤ 4096
+left-le ssx g h l = prod-le g (32 / 2 ^ ssx) 128 32 l (side-le ssx h)
+
+-- ---- halves and classes
+
+module _ (ms : List ℕ) (at first n h : ℕ) where
+  pub two-halves : n ≡ 2 → bitOr (getD ms at 0) (getD ms (at + 1) 0 * 2 ^ h) ≡ halvesAt ms at first n h
+  unfolding halvesAt
+  two-halves e = rw (eq-eqb n 2 e) refl
+
+  pub one-half : n ≢ 2 → getD ms (at + first) 0 ≡ halvesAt ms at first n h
+  unfolding halvesAt
+  one-half e = rw (ne-eqb n 2 e) refl
+
+module _ (ms : List ℕ) (luma : Bool) (at first n h class : ℕ) where
+  pub luma-class : luma ≡ true → class < 3 → halvesAt ms (at + 2 * class) first n h ≡ classAt ms luma at first n h class
+  unfolding classAt
+  luma-class e l = rw (e, lt-ltb class 3 l) refl
+
+  pub chroma-class : luma ≡ false → class < 2 → halvesAt ms (at + 2 * class) first n h ≡ classAt ms luma at first n h class
+  unfolding classAt
+  chroma-class e l = rw (e, lt-ltb class 2 l) refl
+
+  pub no-class : luma ≡ false → 2 ≤ class → 0 ≡ classAt ms luma at first n h class
+  unfolding classAt
+  no-class e l = rw (e, le-ltb class 2 l) refl
+
+pub step-luma : (luma : Bool) → luma ≡ true → stepOf luma ≡ 6
+step-luma luma e = rw e refl
+
+pub step-chroma : (luma : Bool) → luma ≡ false → stepOf luma ≡ 4
+step-chroma luma e = rw e refl
+
+-- ---- level bytes
+
+pub kind-luma : (plane pass : ℕ) → plane ≡ 0 → cond (eqb plane 0) pass (suc plane) ≡ pass
+kind-luma plane pass e = rw (eq-eqb plane 0 e) refl
+
+pub kind-chroma : (plane pass : ℕ) → plane ≢ 0 → cond (eqb plane 0) pass (suc plane) ≡ plane + 1
+kind-chroma plane pass e = rw (ne-eqb plane 0 e, add-one plane) refl
+
+-- ---- masks
+
+pub step-le : (luma : Bool) → stepOf luma ≤ 6
+step-le true = omega arith
+step-le false = omega arith
+
+pub units-le : (luma : Bool) (unit : ℕ) → unit ≤ 32 → stepOf luma * unit ≤ 192
+units-le luma unit h = prod-le (stepOf luma) unit 6 32 (step-le luma) h
+
+-- ---- a line
+
+module _ (c : Component) (d : Pass) (k g a : ℕ) where
+  pub mask-is : (m unit : ℕ) → unit ≡ unitIn c d k a
+      → m ≡ 640 * (recordRow (c .sb4 .0) k * records (c .w4 .0) + g) + startOf (eqb (c .plane) 0) (passNo d) + stepOf (eqb (c .plane) 0) * unit
+      → m ≡ maskAt c d k g a
+  unfolding maskAt
+  mask-is m unit eu e =
+      e
+      ∙ ap (λ (n : ℕ).
+      640 * (recordRow (c .sb4 .0) k * records (c .w4 .0) + g) + startOf (eqb (c .plane) 0) (passNo d) + stepOf (eqb (c .plane) 0) * n) eu
+
+  module _ (len : ℕ) (f : Counted c d k g a len) where
+    first-le : firstHalf c d k ≤ 1
+    first-le = go d
+      where
+        go : (d : Pass) → firstHalf c d k ≤ 1
+        go columns = omega arith
+        go rows = omega arith
+
+    -- the unit is one of its record's
+    pub unit-lt : unitIn c d k a < 32
+    unit-lt = go d (f .unit)
+      where
+        go : (d : Pass) → a < acrossOf c d → unitIn c d k a < 32
+        go columns l = omega (arith, side-le (c .ssx) (f .proper .ssx-le))
+        go rows l = omega (arith, side-le (c .ssy) (f .proper .ssy-le), row-lines (c .ssy) 4096 (c .sb4 .0) k (f .proper .ssy-le) (f .size) (f .row) .room)
+
+    mask-room : maskAt c d k g a + stepOf (eqb (c .plane) 0) ≤ len
+    unfolding maskAt
+    mask-room =
+        omega (
+          arith,
+          f .masks,
+          start-in (eqb (c .plane) 0) (passNo d) (pass-lt d),
+          room (eqb (c .plane) 0) (unitIn c d k a) unit-lt,
+        )
+      where
+        pass-lt : (d : Pass) → passNo d < 2
+        pass-lt columns = omega arith
+        pass-lt rows = omega arith
+
+        room : (luma : Bool) (u : ℕ) → u < 32 → stepOf luma * u + stepOf luma ≤ stepOf luma * 32
+        room true u l = omega arith
+        room false u l = omega arith
+
+    pub class-asks : (m first h class : ℕ) → m ≡ maskAt c d k g a → first ≡ firstHalf c d k → h ≡ half (gridOf c) d → class < 3
+        → (m + stepOf (eqb (c .plane) 0) ≤ len) × (first ≤ 1) × (h ≤ 16) × (class < 3)
+    class-asks m first h class em ef eh l =
+        (omega (arith, mask-room, em), omega (arith, first-le, ef), omega (arith, along (gridOf c) (f .proper) d .most, eh), l)
+
+  module _ (ms : List ℕ) (x y m first n h : ℕ) (ex : x ≡ leftOf c d g a) (ey : y ≡ topOf c d k a) (em : m ≡ maskAt c d k g a)
+      (ef : first ≡ firstHalf c d k) (en : n ≡ halvesOf c d) (eh : h ≡ half (gridOf c) d) where
+    class-is : (class w : ℕ) → w ≡ classAt ms (eqb (c .plane) 0) m first n h class → w ≡ wordOf c ms d k g a class
+    class-is class w e = e ∙ (λ j. classAt ms (eqb (c .plane) 0) (em j) (ef j) (en j) (eh j) class)
+
+    pub line-make : (q m0 m1 m2 at : ℕ) → q ≡ 4 * (y * c .stride + x) → m0 ≡ classAt ms (eqb (c .plane) 0) m first n h 0
+        → m1 ≡ classAt ms (eqb (c .plane) 0) m first n h 1 → m2 ≡ classAt ms (eqb (c .plane) 0) m first n h 2 → at ≡ levelAt (c .pitch) x y (kindOf c d)
+        → _≡_ {A = Line}
+        (record {
+          q = q;
+          sa = lineStep d (c .stride);
+          st = sampleStep d (c .stride);
+          m0 = m0;
+          m1 = m1;
+          m2 = m2;
+          at = at;
+          along = alongStep c d;
+          back = backStep c d;
+        })
+        (lineIn c ms d k g a)
+    line-make q m0 m1 m2 at eq e0 e1 e2 el =
+        let fq : q ≡ 4 * (topOf c d k a * c .stride + leftOf c d g a) = eq ∙ ap₂ (λ (v u : ℕ). 4 * (v * c .stride + u)) ey ex in
+        let fl : at ≡ levelAt (c .pitch) (leftOf c d g a) (topOf c d k a) (kindOf c d) = el
+        ∙ ap₂ (λ (u v : ℕ). levelAt (c .pitch) u v (kindOf c d)) ex ey in
+        (λ j. record {
+          q = fq j;
+          sa = lineStep d (c .stride);
+          st = sampleStep d (c .stride);
+          m0 = class-is 0 m0 e0 j;
+          m1 = class-is 1 m1 e1 j;
+          m2 = class-is 2 m2 e2 j;
+          at = fl j;
+          along = alongStep c d;
+          back = backStep c d;
+        })

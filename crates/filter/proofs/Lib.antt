@@ -1,0 +1,2 @@
+-- The numbers and words of a line
+pub mod Leaves

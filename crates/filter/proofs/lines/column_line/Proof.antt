@@ -1,0 +1,67 @@
+-- `column_line` meets its contract: each number is that of the line.
+use native.Mathlib.Omega.{arith}
+use mathlib.Core.Path.{refl, ap}
+use Prim.Native.Nat.{ℕ, _+_}
+use Rattle.plane.specs.Line.{columns}
+use Rattle.gap.proofs.Frames.{side-le}
+use Rattle.filter.proofs.Leaves.{mask-is, class-asks, line-make}
+use borrow.Author.Needs.{needs}
+use Rattle.filter.proofs.lines.column_line.Statement.{statement}
+use Rattle.filter.proofs.lines.column_line.Tie as tie
+
+group-left-requires : tie.Need-group-left-requires
+group-left-requires c κs = search needs
+
+add-x : tie.Need-add-x
+add-x c = search needs
+
+row-top-requires : tie.Need-row-top-requires
+row-top-requires c κs = search needs
+
+mask-at-requires : tie.Need-mask-at-requires
+mask-at-requires c κs = omega (arith, side-le (c .before .before .before .before .args .c .ssx) (c .before .before .before .before .pre .proper .ssx-le))
+
+mul-first : tie.Need-mul-first
+mul-first c = search needs
+
+half-units-requires : tie.Need-half-units-requires
+half-units-requires c κs = search needs
+
+sample-at-requires : tie.Need-sample-at-requires
+sample-at-requires c κs = rw (c .before .before .before .before .row-top .ensures, c .before .before .before .before .before .group-left .ensures) (c .before .before .before .before .before .before .before .before .pre .sample)
+
+class-at-requires : tie.Need-class-at-requires
+class-at-requires c κs = let t = c .before .before .before .before .before .before .before .before .before in class-asks (t .args .c) columns (t .args .k) (t .args .g) (t .args .a) _ (t .pre) _ _ _ 0 (mask-is (t .args .c) columns (t .args .k) (t .args .g) (t .args .a) _ _ refl (c .before .before .before .before .mask-at .ensures)) refl (c .before .half-units .ensures) (omega arith)
+
+class-at-requires-2 : tie.Need-class-at-requires-2
+class-at-requires-2 c κs = let t = c .before .before .before .before .before .before .before .before .before .before in class-asks (t .args .c) columns (t .args .k) (t .args .g) (t .args .a) _ (t .pre) _ _ _ 1 (mask-is (t .args .c) columns (t .args .k) (t .args .g) (t .args .a) _ _ refl (c .before .before .before .before .before .mask-at .ensures)) refl (c .before .before .half-units .ensures) (omega arith)
+
+class-at-requires-3 : tie.Need-class-at-requires-3
+class-at-requires-3 c κs = let t = c .before .before .before .before .before .before .before .before .before .before .before in class-asks (t .args .c) columns (t .args .k) (t .args .g) (t .args .a) _ (t .pre) _ _ _ 2 (mask-is (t .args .c) columns (t .args .k) (t .args .g) (t .args .a) _ _ refl (c .before .before .before .before .before .before .mask-at .ensures)) refl (c .before .before .before .half-units .ensures) (omega arith)
+
+level-of-requires : tie.Need-level-of-requires
+level-of-requires c κs = (omega arith, c .before .before .before .before .before .before .before .before .before .before .before .before .pre .plane, rw (c .before .before .before .before .before .before .before .before .row-top .ensures, c .before .before .before .before .before .before .before .before .before .group-left .ensures) (c .before .before .before .before .before .before .before .before .before .before .before .before .pre .level))
+
+mul-t19 : tie.Need-mul-t19
+mul-t19 c = record { fits = c .before .before .before .before .before .before .before .before .before .before .before .before .before .before .pre .pitch }
+
+returns : tie.Need-returns
+returns c = let t = c .before .before .before .before .before .before .before .before .before .before .before .before .before .before in line-make (t .args .c) columns (t .args .k) (t .args .g) (t .args .a) (t .args .masks .now) _ _ _ _ _ _ (ap (λ (x : ℕ). x + t .args .a) (c .before .before .before .before .before .before .before .before .before .before .before .group-left .ensures)) (c .before .before .before .before .before .before .before .before .before .before .row-top .ensures) (mask-is (t .args .c) columns (t .args .k) (t .args .g) (t .args .a) _ _ refl (c .before .before .before .before .before .before .before .before .before .mask-at .ensures)) refl refl (c .before .before .before .before .before .before .half-units .ensures) _ _ _ _ _ (c .before .before .before .before .before .sample-at .ensures) (c .before .before .before .before .class-at .ensures) (c .before .before .before .class-at2 .ensures) (c .before .before .class-at3 .ensures) (c .before .level-of .ensures)
+
+pub column-line-spec : {M : Type 1} → statement M
+column-line-spec =
+    tie.close
+    (tie.spec
+    group-left-requires
+    add-x
+    row-top-requires
+    mask-at-requires
+    mul-first
+    half-units-requires
+    sample-at-requires
+    class-at-requires
+    class-at-requires-2
+    class-at-requires-3
+    level-of-requires
+    mul-t19
+    returns)

@@ -1,0 +1,17 @@
+-- `joined` meets its contract: the shift loses no bit.
+use native.Mathlib.Omega.{arith}
+use mathlib.Core.Path.{ap}
+use lib.Bits.{bitOr}
+use lib.Pow.{shl-exact}
+use borrow.Author.Needs.{needs}
+use Rattle.filter.proofs.lines.joined.Statement.{statement}
+use Rattle.filter.proofs.lines.joined.Tie as tie
+
+shl-result : tie.Need-shl-result
+shl-result c = search needs
+
+returns : tie.Need-returns
+returns c = ap (bitOr (c .args .lo)) (shl-exact {a = c .args .hi} 16 (c .args .h) 32 (omega arith) (omega arith))
+
+pub joined-spec : {M : Type 1} → statement M
+joined-spec = tie.close (tie.spec shl-result returns)

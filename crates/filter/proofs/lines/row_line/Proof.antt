@@ -1,0 +1,71 @@
+-- `row_line` meets its contract: each number is that of the line.
+use native.Mathlib.Omega.{arith}
+use mathlib.Core.Path.{refl, ap}
+use Prim.Native.Nat.{ℕ, _+_}
+use Rattle.plane.specs.Line.{rows}
+use Rattle.gap.proofs.Frames.{rows-le}
+use Rattle.filter.proofs.Leaves.{unit-lt, mask-is, class-asks, line-make}
+use borrow.Author.Needs.{needs}
+use Rattle.filter.proofs.lines.row_line.Statement.{statement}
+use Rattle.filter.proofs.lines.row_line.Tie as tie
+
+group-left-requires : tie.Need-group-left-requires
+group-left-requires c κs = search needs
+
+row-top-requires : tie.Need-row-top-requires
+row-top-requires c κs = search needs
+
+add-y : tie.Need-add-y
+add-y c = let t = c .before .before .before .before in omega (arith, c .row-top .ensures, rows-le (t .args .c .ssy) (t .args .k) (t .args .c .sb4 .0) 4096 _ (t .pre .proper .ssy-le) (t .pre .row) refl, unit-lt (t .args .c) rows (t .args .k) (t .args .g) (t .args .a) _ (t .pre))
+
+first-line-requires : tie.Need-first-line-requires
+first-line-requires c κs = search needs
+
+add-unit : tie.Need-add-unit
+add-unit c = let t = c .before .before .before .before .before in omega (arith, c .first-line .ensures, unit-lt (t .args .c) rows (t .args .k) (t .args .g) (t .args .a) _ (t .pre))
+
+mask-at-requires : tie.Need-mask-at-requires
+mask-at-requires c κs = let t = c .before .before .before .before .before in (omega arith, t .pre .wide, t .pre .row, t .pre .group, omega (arith, c .first-line .ensures, unit-lt (t .args .c) rows (t .args .k) (t .args .g) (t .args .a) _ (t .pre)))
+
+half-units-requires : tie.Need-half-units-requires
+half-units-requires c κs = search needs
+
+sample-at-requires : tie.Need-sample-at-requires
+sample-at-requires c κs = rw (c .before .before .before .row-top .ensures, c .before .before .before .before .group-left .ensures) (c .before .before .before .before .before .before .before .pre .sample)
+
+class-at-requires : tie.Need-class-at-requires
+class-at-requires c κs = let t = c .before .before .before .before .before .before .before .before in class-asks (t .args .c) rows (t .args .k) (t .args .g) (t .args .a) _ (t .pre) _ _ _ 0 (mask-is (t .args .c) rows (t .args .k) (t .args .g) (t .args .a) _ _ (ap (λ (x : ℕ). x + t .args .a) (c .before .before .before .first-line .ensures)) (c .before .before .mask-at .ensures)) refl (c .before .half-units .ensures) (omega arith)
+
+class-at-requires-2 : tie.Need-class-at-requires-2
+class-at-requires-2 c κs = let t = c .before .before .before .before .before .before .before .before .before in class-asks (t .args .c) rows (t .args .k) (t .args .g) (t .args .a) _ (t .pre) _ _ _ 1 (mask-is (t .args .c) rows (t .args .k) (t .args .g) (t .args .a) _ _ (ap (λ (x : ℕ). x + t .args .a) (c .before .before .before .before .first-line .ensures)) (c .before .before .before .mask-at .ensures)) refl (c .before .before .half-units .ensures) (omega arith)
+
+class-at-requires-3 : tie.Need-class-at-requires-3
+class-at-requires-3 c κs = let t = c .before .before .before .before .before .before .before .before .before .before in class-asks (t .args .c) rows (t .args .k) (t .args .g) (t .args .a) _ (t .pre) _ _ _ 2 (mask-is (t .args .c) rows (t .args .k) (t .args .g) (t .args .a) _ _ (ap (λ (x : ℕ). x + t .args .a) (c .before .before .before .before .before .first-line .ensures)) (c .before .before .before .before .mask-at .ensures)) refl (c .before .before .before .half-units .ensures) (omega arith)
+
+level-of-requires : tie.Need-level-of-requires
+level-of-requires c κs = (omega arith, c .before .before .before .before .before .before .before .before .before .before .before .pre .plane, rw (c .before .before .before .before .before .before .before .row-top .ensures, c .before .before .before .before .before .before .before .before .group-left .ensures) (c .before .before .before .before .before .before .before .before .before .before .before .pre .level))
+
+mul-t18 : tie.Need-mul-t18
+mul-t18 c = record { fits = c .before .before .before .before .before .before .before .before .before .before .before .before .before .pre .pitch }
+
+returns : tie.Need-returns
+returns c = let t = c .before .before .before .before .before .before .before .before .before .before .before .before .before in line-make (t .args .c) rows (t .args .k) (t .args .g) (t .args .a) (t .args .masks .now) _ _ _ _ _ _ (c .before .before .before .before .before .before .before .before .before .before .group-left .ensures) (ap (λ (x : ℕ). x + t .args .a) (c .before .before .before .before .before .before .before .before .before .row-top .ensures)) (mask-is (t .args .c) rows (t .args .k) (t .args .g) (t .args .a) _ _ (ap (λ (x : ℕ). x + t .args .a) (c .before .before .before .before .before .before .before .before .first-line .ensures)) (c .before .before .before .before .before .before .before .mask-at .ensures)) refl refl (c .before .before .before .before .before .before .half-units .ensures) _ _ _ _ _ (c .before .before .before .before .before .sample-at .ensures) (c .before .before .before .before .class-at .ensures) (c .before .before .before .class-at2 .ensures) (c .before .before .class-at3 .ensures) (c .before .level-of .ensures)
+
+pub row-line-spec : {M : Type 1} → statement M
+row-line-spec =
+    tie.close
+    (tie.spec
+    group-left-requires
+    row-top-requires
+    add-y
+    first-line-requires
+    add-unit
+    mask-at-requires
+    half-units-requires
+    sample-at-requires
+    class-at-requires
+    class-at-requires-2
+    class-at-requires-3
+    level-of-requires
+    mul-t18
+    returns)

@@ -1,0 +1,122 @@
+-- One line of units of superblock row k and group g as it is walked, the a-th across the pass.
+--   leftOf, topOf           its first unit, to the right and down
+--   unitAt                  its place across the pass
+--   acrossOf, unitsAcross   how many such lines there are, and how many of them lie in the frame
+--   unitIn                  its unit across the pass in the masks of the record
+--   maskAt                  where its masks start
+--   firstHalf, halvesOf     the halves of the row in the record: the first of them, and how many
+--   halvesAt                the word of n halves, h units each, from the first one on; the masks of a class start at `at`
+--   classAt                 that of a class; there is no class 2 in chroma
+--   wordOf                  that of the line
+--   alongStep, backStep     from a level byte to the next, and back to the unit before the edge
+--   lineIn, unitsIn         the line, as the code has it and as `walk` takes it
+--   Counted                 what the numbers of a line ask: no sum wraps, and the masks hold the record
+--   Inner                   the line lies in the frame, and not at its start
+use mathlib.Core.Path.{_≡_}
+use mathlib.Core.Bool.{Bool, not, cond}
+use mathlib.Core.List.{List}
+use mathlib.Core.Logic.{_⊎_}
+use Prim.Native.Nat.{ℕ, _+_, _*_, _/_, _%_, _^_, _≤_, _<_}
+use lib.Bits.{bitOr}
+use lib.Dec.{eqb, ltb}
+use lib.ListN.{getD}
+use Rattle.plane.specs.Line.{Pass, columns, rows, lineStep, sampleStep}
+use Rattle.units.specs.Frame.{records}
+use Rattle.units.specs.Memory.{levelAt}
+use Rattle.units.specs.Units.{chromaUnit}
+use Rattle.edges.specs.Edges.{Proper, passNo, unitsOf, side, half}
+use Rattle.gap.specs.Lines.{inRecord, recordRow, firstLine, rowUnits}
+use Rattle.gap.specs.Track.{stepOf, startOf}
+use Rattle.walk.specs.Walk.{Units, units}
+use Rattle.filter.specs.declared.Component.{Component}
+use Rattle.filter.specs.declared.lines.Line.{Line}
+use Rattle.filter.specs.Filter.{Tables, gridOf, kindOf}
+
+abbrev pub leftOf : Component → Pass → ℕ → ℕ → ℕ
+leftOf c columns g a = g * side (gridOf c) columns + a
+leftOf c rows g a = g * side (gridOf c) columns
+
+abbrev pub topOf : Component → Pass → ℕ → ℕ → ℕ
+topOf c columns k a = k * chromaUnit (c .ssy) (c .sb4 .0)
+topOf c rows k a = k * chromaUnit (c .ssy) (c .sb4 .0) + a
+
+abbrev pub unitAt : Component → Pass → ℕ → ℕ → ℕ → ℕ
+unitAt c columns k g a = leftOf c columns g a
+unitAt c rows k g a = topOf c rows k a
+
+abbrev pub acrossOf : Component → Pass → ℕ
+acrossOf c columns = side (gridOf c) columns
+acrossOf c rows = chromaUnit (c .ssy) (c .sb4 .0)
+
+abbrev pub unitsAcross : Component → Pass → ℕ → ℕ → ℕ
+unitsAcross c columns k g = inRecord (side (gridOf c) columns) (unitsOf (gridOf c) columns) g
+unitsAcross c rows k g = rowUnits (c .ssy) (c .h4 .0) (c .sb4 .0) k
+
+abbrev pub unitIn : Component → Pass → ℕ → ℕ → ℕ
+unitIn c columns k a = a
+unitIn c rows k a = firstLine (c .ssy) (c .sb4 .0) k + a
+
+unfoldable pub maskAt : Component → Pass → ℕ → ℕ → ℕ → ℕ
+maskAt c d k g a =
+    640 * (recordRow (c .sb4 .0) k * records (c .w4 .0) + g) + startOf (eqb (c .plane) 0) (passNo d) + stepOf (eqb (c .plane) 0) * unitIn c d k a
+
+abbrev pub firstHalf : Component → Pass → ℕ → ℕ
+firstHalf c columns k = k * c .sb4 .0 % 32 / 16
+firstHalf c rows k = 0
+
+abbrev pub halvesOf : Component → Pass → ℕ
+halvesOf c columns = c .sb4 .0 / 16
+halvesOf c rows = 2
+
+unfoldable pub halvesAt : List ℕ → ℕ → ℕ → ℕ → ℕ → ℕ
+halvesAt ms at first n h = cond (eqb n 2) (bitOr (getD ms at 0) (getD ms (at + 1) 0 * 2 ^ h)) (getD ms (at + first) 0)
+
+unfoldable pub classAt : List ℕ → Bool → ℕ → ℕ → ℕ → ℕ → ℕ → ℕ
+classAt ms luma at first n h class = cond (ltb class (cond luma 3 2)) (halvesAt ms (at + 2 * class) first n h) 0
+
+abbrev pub wordOf : Component → List ℕ → Pass → ℕ → ℕ → ℕ → ℕ → ℕ
+wordOf c ms d k g a class = classAt ms (eqb (c .plane) 0) (maskAt c d k g a) (firstHalf c d k) (halvesOf c d) (half (gridOf c) d) class
+
+abbrev pub alongStep : Component → Pass → ℕ
+alongStep c columns = 4 * c .pitch
+alongStep c rows = 4
+
+abbrev pub backStep : Component → Pass → ℕ
+backStep c columns = 4
+backStep c rows = 4 * c .pitch
+
+abbrev pub lineIn : Component → List ℕ → Pass → ℕ → ℕ → ℕ → Line
+lineIn c ms d k g a =
+    record {
+      q = 4 * (topOf c d k a * c .stride + leftOf c d g a);
+      sa = lineStep d (c .stride);
+      st = sampleStep d (c .stride);
+      m0 = wordOf c ms d k g a 0;
+      m1 = wordOf c ms d k g a 1;
+      m2 = wordOf c ms d k g a 2;
+      at = levelAt (c .pitch) (leftOf c d g a) (topOf c d k a) (kindOf c d);
+      along = alongStep c d;
+      back = backStep c d;
+    }
+
+abbrev pub unitsIn : Component → List ℕ → Line → Units
+unitsIn c levels l =
+    units (l .q) (l .sa) (l .st) (l .m0) (l .m1) (l .m2) (not (eqb (c .plane) 0)) levels (l .at) (l .along) (l .back)
+
+pub record Counted (c : Component) (d : Pass) (k g a len : ℕ) : Type 0 where
+  pub plane : c .plane ≤ 2
+  pub proper : Proper (gridOf c)
+  pub size : (c .sb4 .0 ≡ 16) ⊎ (c .sb4 .0 ≡ 32)
+  pub wide : c .w4 .0 ≤ 4096
+  pub row : k * c .sb4 .0 < 4096
+  pub group : g < records (c .w4 .0)
+  pub unit : a < acrossOf c d
+  pub masks : 640 * (recordRow (c .sb4 .0) k * records (c .w4 .0) + g) + 640 ≤ len
+  pub sample : 4 * (topOf c d k a * c .stride + leftOf c d g a) < 2 ^ 64
+  pub level : levelAt (c .pitch) (leftOf c d g a) (topOf c d k a) (kindOf c d) < 2 ^ 64
+  pub pitch : 4 * c .pitch < 2 ^ 64
+
+pub record Inner (c : Component) (d : Pass) (k g a : ℕ) : Type 0 where
+  pub group : g < records (c .w4 .0)
+  pub unit : a < unitsAcross c d k g
+  pub first : 0 < unitAt c d k g a

@@ -1,0 +1,199 @@
+// One line of units of a superblock row: its masks, and where its samples and level bytes stand.
+use crate::Component;
+use units::ChromaUnit;
+use units::LumaUnit;
+ghost use mathlib.Core.Path.{_≡_};
+ghost use mathlib.Core.Bool.{cond};
+ghost use Prim.Native.Nat.{suc, _+_, _*_, _/_, _^_, _<_, _≤_};
+ghost use lib.Bits.{bitOr};
+ghost use lib.Dec.{eqb};
+ghost use lib.ListN.{length};
+ghost use Rattle.plane.specs.Line.{columns, rows};
+ghost use Rattle.units.specs.Frame.{records};
+ghost use Rattle.units.specs.Memory.{levelAt, halfUnits};
+ghost use Rattle.units.specs.Units.{chromaUnit};
+ghost use Rattle.gap.specs.Lines.{recordRow};
+ghost use Rattle.gap.specs.Track.{stepOf, startOf};
+ghost use Rattle.filter.specs.Filter.{passOf};
+ghost use Rattle.filter.specs.Lines.{halvesAt, classAt, lineIn, Counted};
+
+// What `walk` takes.
+pub struct Line {
+    pub q: usize,
+    pub sa: usize,
+    pub st: usize,
+    pub m0: u32,
+    pub m1: u32,
+    pub m2: u32,
+    pub at: usize,
+    pub along: usize,
+    pub back: usize,
+}
+
+fn group_left(ssx: usize, g: usize) -> usize
+    requires { ⌜ (ssx ≤ 1) × (g ≤ 128) ⌝ }
+    ensures { λ r. ⌜ r ≡ g * (32 / 2 ^ ssx) ⌝ }
+{
+    g * (32 >> ssx)
+}
+
+fn row_top(ssy: usize, sb4: LumaUnit, k: usize) -> usize
+    requires { ⌜ (ssy ≤ 1) × (k * sb4 .0 < 4096) ⌝ }
+    ensures { λ r. ⌜ r ≡ k * chromaUnit ssy (sb4 .0) ⌝ }
+{
+    let sb = units::chroma_unit(sb4, ssy);
+    k * sb.0
+}
+
+// Of a unit, which has 4 samples a side.
+fn sample_at(stride: usize, x: usize, y: usize) -> usize
+    requires { ⌜ 4 * (y * stride + x) < 2 ^ 64 ⌝ }
+    ensures { λ r. ⌜ r ≡ 4 * (y * stride + x) ⌝ }
+{
+    4 * (y * stride + x)
+}
+
+fn level_of(c: Component, pass: usize, x: usize, y: usize) -> usize
+    requires { ⌜ (pass < 2) × (c .plane ≤ 2) × (levelAt (c .pitch) x y (cond (eqb (c .plane) 0) pass (suc (c .plane))) < 2 ^ 64) ⌝ }
+    ensures { λ r. ⌜ r ≡ levelAt (c .pitch) x y (cond (eqb (c .plane) 0) pass (suc (c .plane))) ⌝ }
+{
+    if c.plane == 0 {
+        return units::memory::luma_level_at(c.pitch, LumaUnit(x), LumaUnit(y), pass);
+    }
+    units::memory::chroma_level_at(c.pitch, ChromaUnit(x), ChromaUnit(y), c.plane + 1)
+}
+
+fn step_of(luma: bool) -> usize
+    ensures { λ r. ⌜ r ≡ stepOf luma ⌝ }
+{
+    if luma { 6 } else { 4 }
+}
+
+// Where the masks of a unit of record g start.
+fn mask_at(
+    luma: bool,
+    pass: usize,
+    w4: LumaUnit,
+    sb4: LumaUnit,
+    k: usize,
+    g: usize,
+    unit: usize,
+) -> usize
+    requires { ⌜ (pass < 2) × (w4 .0 ≤ 4096) × (k * sb4 .0 < 4096) × (g < records (w4 .0)) × (unit ≤ 32) ⌝ }
+    ensures { λ r. ⌜ r ≡ 640 * (recordRow (sb4 .0) k * records (w4 .0) + g) + startOf luma pass + stepOf luma * unit ⌝ }
+{
+    let groups = units::frame::records_along(w4);
+    let row = gap::lines::record_row(sb4, k);
+    let start = gap::walk::record_start(luma, pass, row * groups + g);
+    start + step_of(luma) * unit
+}
+
+fn half_units(ss: usize) -> u32
+    requires { ⌜ ss ≤ 1 ⌝ }
+    ensures { λ r. ⌜ r ≡ halfUnits ss ⌝ }
+{
+    16u32 >> ss
+}
+
+fn wide(m: u16) -> u32
+    ensures { λ r. ⌜ r ≡ m ⌝ }
+{
+    m as u32
+}
+
+fn joined(lo: u16, hi: u16, h: u32) -> u32
+    requires { ⌜ h ≤ 16 ⌝ }
+    ensures { λ r. ⌜ r ≡ bitOr lo (hi * 2 ^ h) ⌝ }
+{
+    lo as u32 | (hi as u32) << h
+}
+
+fn halves_at(masks: &[u16], at: usize, first: usize, n: usize, h: u32) -> u32
+    requires { ⌜ (at + 1 < length (now masks)) × (first ≤ 1) × (h ≤ 16) ⌝ }
+    ensures { λ r. ⌜ r ≡ halvesAt (now (masks .entry)) at first n h ⌝ }
+{
+    if n == 2 {
+        return joined(masks[at], masks[at + 1], h);
+    }
+    wide(masks[at + first])
+}
+
+fn class_at(
+    masks: &[u16],
+    luma: bool,
+    at: usize,
+    first: usize,
+    n: usize,
+    h: u32,
+    class: usize,
+) -> u32
+    requires { ⌜ (at + stepOf luma ≤ length (now masks)) × (first ≤ 1) × (h ≤ 16) × (class < 3) ⌝ }
+    ensures { λ r. ⌜ r ≡ classAt (now (masks .entry)) luma at first n h class ⌝ }
+{
+    if luma {
+        return halves_at(masks, at + 2 * class, first, n, h);
+    }
+    if class < 2 {
+        return halves_at(masks, at + 2 * class, first, n, h);
+    }
+    0
+}
+
+fn column_line(masks: &[u16], c: Component, k: usize, g: usize, a: usize) -> Line
+    requires { ⌜ Counted c columns k g a (length (now masks)) ⌝ }
+    ensures { λ r. ⌜ r ≡ lineIn c (now (masks .entry)) columns k g a ⌝ }
+{
+    let luma = c.plane == 0;
+    let x = group_left(c.ssx, g) + a;
+    let y = row_top(c.ssy, c.sb4, k);
+    let m = mask_at(luma, 0, c.w4, c.sb4, k, g, a);
+    let first = k * c.sb4.0 % 32 / 16;
+    let n = c.sb4.0 / 16;
+    let h = half_units(c.ssy);
+    let stride = c.stride;
+    Line {
+        q: sample_at(stride, x, y),
+        sa: stride,
+        st: 1,
+        m0: class_at(masks, luma, m, first, n, h, 0),
+        m1: class_at(masks, luma, m, first, n, h, 1),
+        m2: class_at(masks, luma, m, first, n, h, 2),
+        at: level_of(c, 0, x, y),
+        along: 4 * c.pitch,
+        back: 4,
+    }
+}
+
+fn row_line(masks: &[u16], c: Component, k: usize, g: usize, a: usize) -> Line
+    requires { ⌜ Counted c rows k g a (length (now masks)) ⌝ }
+    ensures { λ r. ⌜ r ≡ lineIn c (now (masks .entry)) rows k g a ⌝ }
+{
+    let luma = c.plane == 0;
+    let x = group_left(c.ssx, g);
+    let y = row_top(c.ssy, c.sb4, k) + a;
+    let unit = gap::lines::first_line(c.ssy, c.sb4, k) + a;
+    let m = mask_at(luma, 1, c.w4, c.sb4, k, g, unit);
+    let h = half_units(c.ssx);
+    let stride = c.stride;
+    Line {
+        q: sample_at(stride, x, y),
+        sa: 1,
+        st: stride,
+        m0: class_at(masks, luma, m, 0, 2, h, 0),
+        m1: class_at(masks, luma, m, 0, 2, h, 1),
+        m2: class_at(masks, luma, m, 0, 2, h, 2),
+        at: level_of(c, 1, x, y),
+        along: 4,
+        back: 4 * c.pitch,
+    }
+}
+
+pub fn line_of(masks: &[u16], c: Component, rowwise: bool, k: usize, g: usize, a: usize) -> Line
+    requires { ⌜ Counted c (passOf rowwise) k g a (length (now masks)) ⌝ }
+    ensures { λ r. ⌜ r ≡ lineIn c (now (masks .entry)) (passOf rowwise) k g a ⌝ }
+{
+    if rowwise {
+        return row_line(masks, c, k, g, a);
+    }
+    column_line(masks, c, k, g, a)
+}
