@@ -1,2 +1,6 @@
 -- The numbers and words of a line
 pub mod Leaves
+-- Where a line lies, and the edges that its words hold
+pub mod Spots
+pub mod Words
+pub mod Acts

@@ -1,0 +1,139 @@
+-- What the plane does along a line is its walk: at a place with an edge `act` is the visit of that place, at any other nothing, and past the line's places no bit is set.
+use mathlib.Core.Path.{_≡_, refl, sym, ap, ap₂, _∙_}
+use mathlib.Core.Bool.{Bool, true, false, cond, not}
+use mathlib.Core.List.{List, []}
+use mathlib.Core.Option.{Option, some, none}
+use Prim.Native.Nat.{ℕ, zero, suc, _+_, _-_, _*_, _≤_, _<_}
+use native.Mathlib.Nat.{le-refl}
+use native.Mathlib.Omega.{arith}
+use lib.Dec.{eqb}
+use lib.ListN.{getD}
+use Rattle.loops.specs.Run.{upTo}
+use Rattle.loops.proofs.Runs.{upTo-idle}
+use Rattle.bits.specs.Bit.{hasBit}
+use Rattle.bits.specs.Walk.{visits}
+use Rattle.plane.specs.Line.{Pass, columns, rows, Rule, Piece, ix, lineStep, sampleStep, put, changed, lineAt, pieceAt, piece}
+use Rattle.plane.specs.Plane.{luma, chroma, inner, class, act, right, down}
+use Rattle.plane.proofs.Pieces.{idle}
+use Rattle.line.specs.Rule.{rule}
+use Rattle.line.specs.Width.{reads, writes}
+use Rattle.units.specs.Memory.{levelAt}
+use Rattle.edges.specs.Edges.{edge}
+use Rattle.walk.specs.Walk.{levelUsed, thresholds, lenOf, Units, setIn, indexAt, visit, visitAt, walked}
+use Rattle.walk.specs.Walk as walk
+use Rattle.filter.specs.declared.Component.{Component}
+use Rattle.filter.specs.Filter.{Tables, gridOf, kindOf, levelIn, before, levelOf, planeOf, lineOf}
+use Rattle.filter.specs.Ready.{Stored, Fit}
+use Rattle.filter.specs.Lines.{leftOf, topOf, unitAt, alongStep, backStep, lineIn, unitsIn, Inner}
+use Rattle.filter.proofs.Spots.{firstPlace, places}
+use Rattle.filter.proofs.Words.{picked, none-over}
+
+-- ---- one piece
+
+reads-is : (b : Bool) (class : ℕ) → cond b luma chroma .reads class ≡ reads (lenOf (not b) class)
+reads-is true zero = refl
+reads-is true (suc zero) = refl
+reads-is true (suc (suc class)) = refl
+reads-is false zero = refl
+reads-is false (suc class) = refl
+
+writes-is : (b : Bool) (class : ℕ) → cond b luma chroma .writes class ≡ writes (lenOf (not b) class)
+writes-is true zero = refl
+writes-is true (suc zero) = refl
+writes-is true (suc (suc class)) = refl
+writes-is false zero = refl
+writes-is false (suc class) = refl
+
+-- a rule that is not to be used changes nothing
+unused : (z : Bool) (r : Rule) (n m sa st q : ℕ) (s : List ℕ) → n ≡ r .reads → m ≡ r .writes
+    → pieceAt sa st (record { reads = n; writes = m; rule = λ l. cond z (record { side = 0; samples = [] }) (r .rule l) }) q s
+    ≡ cond z s (pieceAt sa st r q s)
+unfolding pieceAt lineAt changed put
+unused true r n m sa st q s en em = refl
+unused false r n m sa st q s en em = (λ j. pieceAt sa st (record { reads = en j; writes = em j; rule = r .rule }) q s)
+
+module _ (c : Component) (t : Tables) (d : Pass) (p : Piece) where
+  pub act-visit : (cls : ℕ) → class (planeOf c t) d p ≡ some cls → (s : List ℕ) → act (planeOf c t) d p s
+      ≡ visit (t .depth) (t .e) (t .i) (lineStep d (c .stride)) (sampleStep d (c .stride)) (lenOf (not (eqb (c .plane) 0)) cls) (levelOf c t d p)
+      (ix d (c .stride) (4 * p .1) (4 * p .0)) s
+  unfolding act piece visit
+  act-visit cls e s =
+      rw e
+      (unused (eqb (levelOf c t d p) 0) (rule (lenOf (not (eqb (c .plane) 0)) cls) (thresholds (t .depth) (t .e) (t .i) (levelOf c t d p)))
+      (cond (eqb (c .plane) 0) luma chroma .reads cls) (cond (eqb (c .plane) 0) luma chroma .writes cls) (lineStep d (c .stride)) (sampleStep d (c .stride))
+      (ix d (c .stride) (4 * p .1) (4 * p .0)) s (reads-is (eqb (c .plane) 0) cls) (writes-is (eqb (c .plane) 0) cls))
+
+inner-pos : (u : ℕ) (o : Option ℕ) → 0 < u → inner u o ≡ o
+inner-pos zero o h = absurd (omega arith)
+inner-pos (suc u) o h = refl
+
+-- ---- the level bytes and the samples of place v
+
+module _ (c : Component) (k g a v : ℕ) where
+  pub index-is : (d : Pass)
+      → ix d (c .stride) (4 * (firstPlace c d k g + v)) (4 * unitAt c d k g a)
+      ≡ 4 * (topOf c d k a * c .stride + leftOf c d g a) + v * (4 * lineStep d (c .stride))
+  index-is columns = omega arith
+  index-is rows = omega arith
+
+  pub level-place : (d : Pass) (kind : ℕ)
+      → levelAt (c .pitch) (right d (unitAt c d k g a, firstPlace c d k g + v)) (down d (unitAt c d k g a, firstPlace c d k g + v)) kind
+      ≡ levelAt (c .pitch) (leftOf c d g a) (topOf c d k a) kind + v * alongStep c d
+  unfolding levelAt
+  level-place columns kind = omega arith
+  level-place rows kind = omega arith
+
+  pub before-place : (d : Pass) (kind : ℕ) → 0 < unitAt c d k g a
+      → levelAt (c .pitch) (right d (before (unitAt c d k g a, firstPlace c d k g + v))) (down d (before (unitAt c d k g a, firstPlace c d k g + v))) kind
+      + backStep c d ≡ levelAt (c .pitch) (leftOf c d g a) (topOf c d k a) kind + v * alongStep c d
+  unfolding levelAt
+  before-place columns kind h = omega arith
+  before-place rows kind h = let e : unitAt c rows k g a - 1 + 1 ≡ topOf c rows k a = omega arith in
+      omega (arith, ap (λ (n : ℕ). n * c .pitch) e)
+
+-- ---- the line
+
+upTo-same : {S : Type 0} (f g : ℕ → S → S) (n : ℕ) → ((i : ℕ) → i < n → (s : S) → f i s ≡ g i s) → (s : S) → upTo f n s ≡ upTo g n s
+upTo-same f g zero h s = refl
+upTo-same f g (suc n) h s = ap (f n) (upTo-same f g n (λ i l. h i (omega arith)) s) ∙ h n (le-refl (suc n)) (upTo g n s)
+
+module _ (c : Component) (t : Tables) (k g a len : ℕ) (s : Stored c t len) where
+  line-places : (d : Pass) (l : List ℕ)
+      → lineOf (planeOf c t) d k g a l ≡ upTo (λ v. act (planeOf c t) d (unitAt c d k g a, firstPlace c d k g + v)) (places c d) l
+  unfolding lineOf
+  line-places columns l = refl
+  line-places rows l = refl
+
+  module _ (d : Pass) (f : Fit c t d k) (i : Inner c d k g a) (small : (j : ℕ) → getD (t .masks) j 0 < 65536) where
+    abbrev U : Units
+    U = unitsIn c (t .levels) (lineIn c (t .masks) d k g a)
+
+    class-is : (v : ℕ) → v < places c d → class (planeOf c t) d (unitAt c d k g a, firstPlace c d k g + v)
+        ≡ cond (hasBit (setIn U) v) (some (walk.highest (U .m₁) (U .m₂) v)) none
+    class-is v l = inner-pos (unitAt c d k g a) _ (i .first) ∙ picked c t d k g a len s f i small v l
+
+    level-is : (v : ℕ) → levelOf c t d (unitAt c d k g a, firstPlace c d k g + v) ≡ walk.levelAt U v
+    level-is v =
+        let e : levelAt (c .pitch) (right d (before (unitAt c d k g a, firstPlace c d k g + v)))
+        (down d (before (unitAt c d k g a, firstPlace c d k g + v))) (kindOf c d) ≡ U .at + v * U .along - U .back =
+        omega (arith, before-place c k g a v d (kindOf c d) (i .first)) in
+        ap₂ (λ (x y : ℕ). levelUsed (getD (t .levels) x 0) (getD (t .levels) y 0)) (level-place c k g a v d (kindOf c d)) e
+
+    step : (v : ℕ) → v < places c d → (l : List ℕ) → act (planeOf c t) d (unitAt c d k g a, firstPlace c d k g + v) l
+        ≡ cond (hasBit (setIn U) v) (visitAt (t .depth) (t .e) (t .i) U v l) l
+    step v lv l = go (hasBit (setIn U) v) (class-is v lv)
+      where
+        go : (b : Bool) → class (planeOf c t) d (unitAt c d k g a, firstPlace c d k g + v) ≡ cond b (some (walk.highest (U .m₁) (U .m₂) v)) none
+            → act (planeOf c t) d (unitAt c d k g a, firstPlace c d k g + v) l ≡ cond b (visitAt (t .depth) (t .e) (t .i) U v l) l
+        go true e =
+            act-visit c t d (unitAt c d k g a, firstPlace c d k g + v) _ e l
+            ∙ ap₂ (λ (x y : ℕ). visit (t .depth) (t .e) (t .i) (U .sa) (U .st) (walk.lenAt U v) x y l) (level-is v) (index-is c k g a v d)
+        go false e = idle (planeOf c t) d (unitAt c d k g a, firstPlace c d k g + v) e l
+
+    pub line-walked : places c d ≤ 32 → (l : List ℕ) → lineOf (planeOf c t) d k g a l ≡ walked (t .depth) (t .e) (t .i) U l
+    unfolding walked visits
+    line-walked few l =
+        line-places d l
+        ∙ upTo-same _ _ (places c d) step l
+        ∙ sym (upTo-idle (λ v m. cond (hasBit (setIn U) v) (visitAt (t .depth) (t .e) (t .i) U v m) m) (places c d) 32
+        (λ v x m. rw (none-over c t d k g a len s f i small v x) refl) few l)
