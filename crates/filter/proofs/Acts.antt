@@ -30,7 +30,7 @@ use Rattle.filter.proofs.Words.{picked, none-over}
 
 -- ---- one piece
 
-reads-is : (b : Bool) (class : ℕ) → cond b luma chroma .reads class ≡ reads (lenOf (not b) class)
+pub reads-is : (b : Bool) (class : ℕ) → cond b luma chroma .reads class ≡ reads (lenOf (not b) class)
 reads-is true zero = refl
 reads-is true (suc zero) = refl
 reads-is true (suc (suc class)) = refl

@@ -4,3 +4,5 @@ pub mod Leaves
 pub mod Spots
 pub mod Words
 pub mod Acts
+-- What its walk asks for
+pub mod Rooms

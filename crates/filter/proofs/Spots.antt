@@ -48,10 +48,12 @@ pub record Spot (c : Component) (d : Pass) (k g a : ℕ) : Type 0 where
   pub halves : (j : ℕ) → j < halvesOf c d → Along (gridOf c) d (c .sb4 .0) k (recAlong c d k g * 2 + (firstHalf c d k + j))
   pub inside : unitAt c d k g a < unitsOf (gridOf c) d
 
-row-sizes : (ss sb4 : ℕ) → ss ≤ 1 → (sb4 ≡ 16) ⊎ (sb4 ≡ 32) → (sb4 / 16 * halfUnits ss ≡ chromaUnit ss sb4) × (1 ≤ sb4 / 16)
+abbrev pub Sizes : ℕ → ℕ → Type 0
+Sizes ss sb4 = (sb4 / 16 * halfUnits ss ≡ chromaUnit ss sb4) × (1 ≤ sb4 / 16) × (8 ≤ chromaUnit ss sb4) × (chromaUnit ss sb4 ≤ 32)
+
+pub row-sizes : (ss sb4 : ℕ) → ss ≤ 1 → (sb4 ≡ 16) ⊎ (sb4 ≡ 32) → Sizes ss sb4
 row-sizes ss sb4 h =
-    ⊎-elim (λ e. rw e (by-ss (λ t. (16 / 16 * halfUnits t ≡ chromaUnit t 16) × (1 ≤ 16 / 16)) (omega arith) (omega arith) ss h))
-    (λ e. rw e (by-ss (λ t. (32 / 16 * halfUnits t ≡ chromaUnit t 32) × (1 ≤ 32 / 16)) (omega arith) (omega arith) ss h))
+    ⊎-elim (λ e. rw e (by-ss (λ t. Sizes t 16) (omega arith) (omega arith) ss h)) (λ e. rw e (by-ss (λ t. Sizes t 32) (omega arith) (omega arith) ss h))
 
 module _ (c : Component) (t : Tables) (k g a len : ℕ) (s : Stored c t len) where
   column-spot : k * c .sb4 .0 < c .h4 .0 → Inner c columns k g a → Spot c columns k g a
