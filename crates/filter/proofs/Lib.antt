@@ -6,3 +6,4 @@ pub mod Words
 pub mod Acts
 -- What its walk asks for
 pub mod Rooms
+pub mod Ranges

@@ -2,6 +2,7 @@
 --   leftOf, topOf           its first unit, to the right and down
 --   unitAt                  its place across the pass
 --   acrossOf, unitsAcross   how many such lines there are, and how many of them lie in the frame
+--   firstUnit               the first of them that is walked: none is at the frame's start
 --   unitIn                  its unit across the pass in the masks of the record
 --   maskAt                  where its masks start
 --   firstHalf, halvesOf     the halves of the row in the record: the first of them, and how many
@@ -10,6 +11,7 @@
 --   wordOf                  that of the line
 --   alongStep, backStep     from a level byte to the next, and back to the unit before the edge
 --   lineIn, unitsIn         the line, as the code has it and as `walk` takes it
+--   groupOf                 what is done along the lines of a group
 --   Counted                 what the numbers of a line ask: no sum wraps, and the masks hold the record
 --   Inner                   the line lies in the frame, and not at its start
 use mathlib.Core.Path.{_≡_}
@@ -20,7 +22,9 @@ use Prim.Native.Nat.{ℕ, _+_, _*_, _/_, _%_, _^_, _≤_, _<_}
 use lib.Bits.{bitOr}
 use lib.Dec.{eqb, ltb}
 use lib.ListN.{getD}
+use Rattle.loops.specs.Run.{upTo}
 use Rattle.plane.specs.Line.{Pass, columns, rows, lineStep, sampleStep}
+use Rattle.plane.specs.Plane.{Plane}
 use Rattle.units.specs.Frame.{records}
 use Rattle.units.specs.Memory.{levelAt}
 use Rattle.units.specs.Units.{chromaUnit}
@@ -30,7 +34,7 @@ use Rattle.gap.specs.Track.{stepOf, startOf}
 use Rattle.walk.specs.Walk.{Units, units}
 use Rattle.filter.specs.declared.Component.{Component}
 use Rattle.filter.specs.declared.lines.Line.{Line}
-use Rattle.filter.specs.Filter.{Tables, gridOf, kindOf}
+use Rattle.filter.specs.Filter.{gridOf, kindOf, across, lineOf}
 
 abbrev pub leftOf : Component → Pass → ℕ → ℕ → ℕ
 leftOf c columns g a = g * side (gridOf c) columns + a
@@ -51,6 +55,10 @@ acrossOf c rows = chromaUnit (c .ssy) (c .sb4 .0)
 abbrev pub unitsAcross : Component → Pass → ℕ → ℕ → ℕ
 unitsAcross c columns k g = inRecord (side (gridOf c) columns) (unitsOf (gridOf c) columns) g
 unitsAcross c rows k g = rowUnits (c .ssy) (c .h4 .0) (c .sb4 .0) k
+
+abbrev pub firstUnit : Pass → ℕ → ℕ → ℕ
+firstUnit columns k g = cond (eqb g 0) 1 0
+firstUnit rows k g = cond (eqb k 0) 1 0
 
 abbrev pub unitIn : Component → Pass → ℕ → ℕ → ℕ
 unitIn c columns k a = a
@@ -102,6 +110,10 @@ lineIn c ms d k g a =
 abbrev pub unitsIn : Component → List ℕ → Line → Units
 unitsIn c levels l =
     units (l .q) (l .sa) (l .st) (l .m0) (l .m1) (l .m2) (not (eqb (c .plane) 0)) levels (l .at) (l .along) (l .back)
+
+-- the lines of a group
+unfoldable pub groupOf : Plane → Pass → ℕ → ℕ → List ℕ → List ℕ
+groupOf P d k g = upTo (lineOf P d k g) (across P d)
 
 pub record Counted (c : Component) (d : Pass) (k g a len : ℕ) : Type 0 where
   pub plane : c .plane ≤ 2

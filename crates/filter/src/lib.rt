@@ -3,6 +3,13 @@
 pub mod lines;
 
 use units::LumaUnit;
+ghost use mathlib.Core.Path.{_≡_};
+ghost use Prim.Native.Nat.{_^_, _≤_, _<_};
+ghost use lib.ListN.{length};
+ghost use Rattle.units.specs.Frame.{records};
+ghost use Rattle.filter.specs.Filter.{tables, passOf, planeOf, lineOf, sweepOf};
+ghost use Rattle.filter.specs.Ready.{Stored, Fit, Under};
+ghost use Rattle.filter.specs.Lines.{groupOf, Inner};
 
 // One plane of a frame: 0 luma, 1 U, 2 V, with its own subsampling, 0 for luma; its stride in samples, and the pitch of the level bytes in units.
 pub struct Component {
@@ -14,4 +21,158 @@ pub struct Component {
     pub sb4: LumaUnit,
     pub stride: usize,
     pub pitch: usize,
+}
+
+fn line_8(
+    dst: &mut [u8],
+    c: Component,
+    rowwise: bool,
+    k: usize,
+    g: usize,
+    a: usize,
+    levels: &[u8],
+    masks: &[u16],
+    e: &[u8; 64],
+    i: &[u8; 64],
+)
+    requires { ⌜ Stored c (tables 8 (now levels) (now masks) (now e) (now i)) (length (now dst)) × Fit c (tables 8 (now levels) (now masks) (now e) (now i)) (passOf rowwise) k × Inner c (passOf rowwise) k g a ⌝ }
+    ensures { λ _. ⌜ now (dst .exit) ≡ lineOf (planeOf c (tables 8 (now (levels .entry)) (now (masks .entry)) (now (e .entry)) (now (i .entry)))) (passOf rowwise) k g a (now (dst .entry)) ⌝ }
+{
+    let l = lines::line_of(masks, c, rowwise, k, g, a);
+    let uv = c.plane != 0;
+    walk::walk_8(
+        dst,
+        l.q,
+        l.sa,
+        l.st,
+        l.m0,
+        l.m1,
+        l.m2,
+        uv,
+        levels,
+        l.at,
+        l.along,
+        l.back,
+        e,
+        i,
+    );
+}
+
+fn group_8(
+    dst: &mut [u8],
+    c: Component,
+    rowwise: bool,
+    k: usize,
+    g: usize,
+    levels: &[u8],
+    masks: &[u16],
+    e: &[u8; 64],
+    i: &[u8; 64],
+)
+    requires { ⌜ Stored c (tables 8 (now levels) (now masks) (now e) (now i)) (length (now dst)) × Fit c (tables 8 (now levels) (now masks) (now e) (now i)) (passOf rowwise) k × (g < records (c .w4 .0)) ⌝ }
+    ensures { λ _. ⌜ now (dst .exit) ≡ groupOf (planeOf c (tables 8 (now (levels .entry)) (now (masks .entry)) (now (e .entry)) (now (i .entry)))) (passOf rowwise) k g (now (dst .entry)) ⌝ }
+{
+    let n = lines::units_across(c, rowwise, k, g);
+    let first = lines::first_unit(rowwise, k, g);
+    for a in first..n {
+        line_8(dst, c, rowwise, k, g, a, levels, masks, e, i);
+    }
+}
+
+pub fn plane_8(
+    dst: &mut [u8],
+    c: Component,
+    rowwise: bool,
+    k: usize,
+    levels: &[u8],
+    masks: &[u16],
+    e: &[u8; 64],
+    i: &[u8; 64],
+)
+    requires { ⌜ Stored c (tables 8 (now levels) (now masks) (now e) (now i)) (length (now dst)) × Fit c (tables 8 (now levels) (now masks) (now e) (now i)) (passOf rowwise) k ⌝ }
+    ensures { λ _. ⌜ now (dst .exit) ≡ sweepOf (planeOf c (tables 8 (now (levels .entry)) (now (masks .entry)) (now (e .entry)) (now (i .entry)))) (passOf rowwise) k (now (dst .entry)) ⌝ }
+{
+    let groups = units::frame::records_along(c.w4);
+    for g in 0..groups {
+        group_8(dst, c, rowwise, k, g, levels, masks, e, i);
+    }
+}
+
+fn line_16(
+    dst: &mut [u16],
+    c: Component,
+    rowwise: bool,
+    k: usize,
+    g: usize,
+    a: usize,
+    levels: &[u8],
+    masks: &[u16],
+    e: &[u8; 64],
+    i: &[u8; 64],
+    depth: u32,
+)
+    requires { ⌜ Stored c (tables depth (now levels) (now masks) (now e) (now i)) (length (now dst)) × Fit c (tables depth (now levels) (now masks) (now e) (now i)) (passOf rowwise) k × Inner c (passOf rowwise) k g a × (8 ≤ depth) × (depth ≤ 12) × Under (2 ^ depth) c (passOf rowwise) k (now dst) ⌝ }
+    ensures { λ _. ⌜ (now (dst .exit) ≡ lineOf (planeOf c (tables depth (now (levels .entry)) (now (masks .entry)) (now (e .entry)) (now (i .entry)))) (passOf rowwise) k g a (now (dst .entry))) × Under (2 ^ depth) c (passOf rowwise) k (now (dst .exit)) ⌝ }
+{
+    let l = lines::line_of(masks, c, rowwise, k, g, a);
+    let uv = c.plane != 0;
+    walk::walk_16(
+        dst,
+        l.q,
+        l.sa,
+        l.st,
+        l.m0,
+        l.m1,
+        l.m2,
+        uv,
+        levels,
+        l.at,
+        l.along,
+        l.back,
+        e,
+        i,
+        depth,
+    );
+}
+
+fn group_16(
+    dst: &mut [u16],
+    c: Component,
+    rowwise: bool,
+    k: usize,
+    g: usize,
+    levels: &[u8],
+    masks: &[u16],
+    e: &[u8; 64],
+    i: &[u8; 64],
+    depth: u32,
+)
+    requires { ⌜ Stored c (tables depth (now levels) (now masks) (now e) (now i)) (length (now dst)) × Fit c (tables depth (now levels) (now masks) (now e) (now i)) (passOf rowwise) k × (g < records (c .w4 .0)) × (8 ≤ depth) × (depth ≤ 12) × Under (2 ^ depth) c (passOf rowwise) k (now dst) ⌝ }
+    ensures { λ _. ⌜ (now (dst .exit) ≡ groupOf (planeOf c (tables depth (now (levels .entry)) (now (masks .entry)) (now (e .entry)) (now (i .entry)))) (passOf rowwise) k g (now (dst .entry))) × Under (2 ^ depth) c (passOf rowwise) k (now (dst .exit)) ⌝ }
+{
+    let n = lines::units_across(c, rowwise, k, g);
+    let first = lines::first_unit(rowwise, k, g);
+    for a in first..n {
+        line_16(dst, c, rowwise, k, g, a, levels, masks, e, i, depth);
+    }
+}
+
+pub fn plane_16(
+    dst: &mut [u16],
+    c: Component,
+    rowwise: bool,
+    k: usize,
+    levels: &[u8],
+    masks: &[u16],
+    e: &[u8; 64],
+    i: &[u8; 64],
+    depth: u32,
+)
+    requires { ⌜ Stored c (tables depth (now levels) (now masks) (now e) (now i)) (length (now dst)) × Fit c (tables depth (now levels) (now masks) (now e) (now i)) (passOf rowwise) k × (8 ≤ depth) × (depth ≤ 12) × Under (2 ^ depth) c (passOf rowwise) k (now dst) ⌝ }
+    ensures { λ _. ⌜ now (dst .exit) ≡ sweepOf (planeOf c (tables depth (now (levels .entry)) (now (masks .entry)) (now (e .entry)) (now (i .entry)))) (passOf rowwise) k (now (dst .entry)) ⌝ }
+{
+    let groups = units::frame::records_along(c.w4);
+    for g in 0..groups {
+        group_16(dst, c, rowwise, k, g, levels, masks, e, i, depth);
+    }
 }

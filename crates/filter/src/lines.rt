@@ -15,7 +15,7 @@ ghost use Rattle.units.specs.Units.{chromaUnit};
 ghost use Rattle.gap.specs.Lines.{recordRow};
 ghost use Rattle.gap.specs.Track.{stepOf, startOf};
 ghost use Rattle.filter.specs.Filter.{passOf};
-ghost use Rattle.filter.specs.Lines.{halvesAt, classAt, lineIn, Counted};
+ghost use Rattle.filter.specs.Lines.{halvesAt, classAt, firstUnit, unitsAcross, lineIn, Counted};
 
 // What `walk` takes.
 pub struct Line {
@@ -196,4 +196,31 @@ pub fn line_of(masks: &[u16], c: Component, rowwise: bool, k: usize, g: usize, a
         return row_line(masks, c, k, g, a);
     }
     column_line(masks, c, k, g, a)
+}
+
+// 1 at the frame's start, where no line is walked.
+fn after_start(n: usize) -> usize
+    ensures { λ r. ⌜ r ≡ cond (eqb n 0) 1 0 ⌝ }
+{
+    if n == 0 { 1 } else { 0 }
+}
+
+pub fn first_unit(rowwise: bool, k: usize, g: usize) -> usize
+    ensures { λ r. ⌜ r ≡ firstUnit (passOf rowwise) k g ⌝ }
+{
+    if rowwise {
+        return after_start(k);
+    }
+    after_start(g)
+}
+
+pub fn units_across(c: Component, rowwise: bool, k: usize, g: usize) -> usize
+    requires { ⌜ (c .ssx ≤ 1) × (c .ssy ≤ 1) × (c .w4 .0 ≤ 4096) × (c .h4 .0 ≤ 4096) × (k * c .sb4 .0 < c .h4 .0) × (g ≤ 128) ⌝ }
+    ensures { λ r. ⌜ r ≡ unitsAcross c (passOf rowwise) k g ⌝ }
+{
+    if rowwise {
+        return gap::lines::row_units(c.ssy, c.h4, c.sb4, k);
+    }
+    let wide = units::chroma_units(c.w4, c.ssx);
+    gap::lines::in_record(32 >> c.ssx, wide.0, g)
 }
