@@ -97,14 +97,14 @@ upTo-same : {S : Type 0} (f g : ℕ → S → S) (n : ℕ) → ((i : ℕ) → i 
 upTo-same f g zero h s = refl
 upTo-same f g (suc n) h s = ap (f n) (upTo-same f g n (λ i l. h i (omega arith)) s) ∙ h n (le-refl (suc n)) (upTo g n s)
 
-module _ (c : Component) (t : Tables) (k g a len : ℕ) (s : Stored c t len) where
-  line-places : (d : Pass) (l : List ℕ)
+module _ (c : Component) (t : Tables) (k g a : ℕ) where
+  pub line-places : (d : Pass) (l : List ℕ)
       → lineOf (planeOf c t) d k g a l ≡ upTo (λ v. act (planeOf c t) d (unitAt c d k g a, firstPlace c d k g + v)) (places c d) l
   unfolding lineOf
   line-places columns l = refl
   line-places rows l = refl
 
-  module _ (d : Pass) (f : Fit c t d k) (i : Inner c d k g a) (small : (j : ℕ) → getD (t .masks) j 0 < 65536) where
+  module _ (len : ℕ) (s : Stored c t len) (d : Pass) (f : Fit c t d k) (i : Inner c d k g a) (small : (j : ℕ) → getD (t .masks) j 0 < 65536) where
     abbrev U : Units
     U = unitsIn c (t .levels) (lineIn c (t .masks) d k g a)
 

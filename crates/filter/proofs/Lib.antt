@@ -7,3 +7,5 @@ pub mod Acts
 -- What its walk asks for
 pub mod Rooms
 pub mod Ranges
+-- The lines of a group, and the groups of a row
+pub mod Groups

@@ -69,7 +69,7 @@ module _ (c : Component) (t : Tables) (k len : ℕ) (s : Stored c t len) where
       )
 
   -- y stored lines of samples
-  lines-in : (y : ℕ) → y ≤ 4 * (records (c .h4 .0) * side (gridOf c) rows) → y * c .stride ≤ len
+  pub lines-in : (y : ℕ) → y ≤ 4 * (records (c .h4 .0) * side (gridOf c) rows) → y * c .stride ≤ len
   lines-in y h = omega (arith, s .stored-long, mul-le-mul-right (c .stride) h, mul-comm (c .stride) (4 * (records (c .h4 .0) * side (gridOf c) rows)))
 
   -- at least 16 lines of samples lie above a row that is not the first
@@ -171,7 +171,7 @@ module _ (c : Component) (t : Tables) (k len u w : ℕ) (s : Stored c t len) whe
       go true h = h
       go false h = omega (arith, s .plane)
 
-  level-there : (d : Pass) → u < unitsOf (gridOf c) d → w < unitsOf (gridOf c) (other d)
+  pub level-there : (d : Pass) → u < unitsOf (gridOf c) d → w < unitsOf (gridOf c) (other d)
       → levelAt (c .pitch) (right d (u, w)) (down d (u, w)) (kindOf c d) < length (t .levels)
   level-there columns hu hw =
       level-in (length (t .levels)) (c .pitch) (c .w4 .0) (c .h4 .0) u w (kindOf c columns) (s .levels-wide) (s .levels-long)
@@ -191,7 +191,7 @@ level-low c t k g a v u columns f i p q x l y =
 level-low c t k g a v u rows f i p q x l y =
     f .levels (firstPlace c rows k g + v) u y (omega arith) (omega arith) (omega (arith, i .unit, add-mul k 1 (chromaUnit (c .ssy) (c .sb4 .0))))
 
-step-in : (c : Component) (t : Tables) (len : ℕ) (d : Pass) → Stored c t len → 0 < c .h4 .0 → alongStep c d ≤ length (t .levels)
+pub step-in : (c : Component) (t : Tables) (len : ℕ) (d : Pass) → Stored c t len → 0 < c .h4 .0 → alongStep c d ≤ length (t .levels)
 step-in c t len columns s h = omega (arith, s .levels-long, mul-le-mul-left (4 * c .pitch) h)
 step-in c t len rows s h = omega (arith, s .levels-long, s .levels-wide, s .some, mul-le-mul-left (4 * c .pitch) h)
 

@@ -11,6 +11,7 @@ use Rattle.units.specs.Units.{chromaUnit, chromaUnits}
 use Rattle.edges.specs.Edges.{other, unitsOf, side, half, recordAt}
 use Rattle.gap.specs.Lines.{recordRow, firstLine}
 use Rattle.gap.specs.Promises.{Across, Along}
+use Rattle.gap.proofs.Frames.{side-le}
 use Rattle.gap.proofs.Masks.{along}
 use Rattle.gap.proofs.Shapes.{by-ss, RowLines, row-lines, RowHalves, row-halves, units-stored, record-starts}
 use Rattle.filter.specs.declared.Component.{Component}
@@ -98,3 +99,7 @@ module _ (c : Component) (t : Tables) (k g a len : ℕ) (s : Stored c t len) whe
   pub spot : (d : Pass) → k * c .sb4 .0 < c .h4 .0 → Inner c d k g a → Spot c d k g a
   spot columns = column-spot
   spot rows = row-spot
+
+  pub places-le : (d : Pass) → places c d ≤ 32
+  places-le columns = row-sizes (c .ssy) (c .sb4 .0) (s .proper .ssy-le) (s .size) .3
+  places-le rows = side-le (c .ssx) (s .proper .ssx-le)

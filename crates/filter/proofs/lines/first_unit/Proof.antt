@@ -1,25 +1,23 @@
+-- `first_unit` meets its contract, pass by pass.
+use mathlib.Core.Path.{sym, ap, _∙_}
+use mathlib.Core.Bool.{Bool}
+use Rattle.filter.specs.Filter.{passOf}
+use Rattle.filter.specs.Lines.{firstUnit}
 use borrow.Author.Needs.{needs}
 use Rattle.filter.proofs.lines.first_unit.Statement.{statement}
 use Rattle.filter.proofs.lines.first_unit.Tie as tie
-use Rattle.filter.proofs.lines.first_unit.Reads as reads
-use Rattle.filter.proofs.lines.first_unit.Lts as lts
-use Rattle.filter.proofs.lines.after_start.Reads as after-start-reads
 
--- src/lines.rt:212:9
 after-start-requires : tie.Need-after-start-requires
 after-start-requires c κs = search needs
 
--- src/lines.rt:212:9
 returns : tie.Need-returns
-returns c = ?
+returns c = c .after-start .ensures ∙ ap (λ (b : Bool). firstUnit (passOf b) (c .before .before .args .k) (c .before .before .args .g)) (sym (c .before .if1 .taken))
 
--- src/lines.rt:214:5
 after-start-requires-2 : tie.Need-after-start-requires-2
 after-start-requires-2 c κs = search needs
 
--- src/lines.rt:208:1
 returns-2 : tie.Need-returns-2
-returns-2 c = ?
+returns-2 c = c .after-start2 .ensures ∙ ap (λ (b : Bool). firstUnit (passOf b) (c .before .before .args .k) (c .before .before .args .g)) (sym (c .before .if1 .left))
 
 pub first-unit-spec : {M : Type 1} → statement M
 first-unit-spec =

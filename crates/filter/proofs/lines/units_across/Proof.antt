@@ -1,35 +1,33 @@
+-- `units_across` meets its contract, pass by pass.
+use native.Mathlib.Omega.{arith}
+use mathlib.Core.Path.{sym, ap, _∙_}
+use mathlib.Core.Bool.{Bool}
+use Prim.Native.Nat.{ℕ, _/_, _^_}
+use Rattle.gap.specs.Lines.{inRecord}
+use Rattle.gap.proofs.Frames.{side-le}
+use Rattle.filter.specs.Filter.{passOf}
+use Rattle.filter.specs.Lines.{unitsAcross}
 use borrow.Author.Needs.{needs}
 use Rattle.filter.proofs.lines.units_across.Statement.{statement}
 use Rattle.filter.proofs.lines.units_across.Tie as tie
-use Rattle.filter.proofs.lines.units_across.Reads as reads
-use Rattle.filter.proofs.lines.units_across.Lts as lts
-use Rattle.gap.proofs.lines.in_record.Reads as in-record-reads
-use Rattle.gap.proofs.lines.row_units.Reads as row-units-reads
-use Rattle.units.proofs.chroma_units.Reads as chroma-units-reads
 
--- src/lines.rt:222:9
 row-units-requires : tie.Need-row-units-requires
 row-units-requires c κs = search needs
 
--- src/lines.rt:222:9
 returns : tie.Need-returns
-returns c = ?
+returns c = c .row-units .ensures ∙ ap (λ (b : Bool). unitsAcross (c .before .before .args .c) (passOf b) (c .before .before .args .k) (c .before .before .args .g)) (sym (c .before .if1 .taken))
 
--- src/lines.rt:224:9
 chroma-units-requires : tie.Need-chroma-units-requires
 chroma-units-requires c κs = search needs
 
--- src/lines.rt:225:27
 shr-in-record : tie.Need-shr-in-record
 shr-in-record c = search needs
 
--- src/lines.rt:225:5
 in-record-requires : tie.Need-in-record-requires
-in-record-requires c κs = ?
+in-record-requires c κs = (side-le (c .before .before .before .args .c .ssx) (omega arith), omega arith)
 
--- src/lines.rt:217:1
 returns-2 : tie.Need-returns-2
-returns-2 c = ?
+returns-2 c = c .in-record .ensures ∙ ap (λ (n : ℕ). inRecord (32 / 2 ^ c .before .before .before .before .args .c .ssx) n (c .before .before .before .before .args .g)) (c .before .before .chroma-units .ensures) ∙ ap (λ (b : Bool). unitsAcross (c .before .before .before .before .args .c) (passOf b) (c .before .before .before .before .args .k) (c .before .before .before .before .args .g)) (sym (c .before .before .before .if1 .left))
 
 pub units-across-spec : {M : Type 1} → statement M
 units-across-spec =
