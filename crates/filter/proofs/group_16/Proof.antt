@@ -1,56 +1,50 @@
-use borrow.Author.Needs.{needs}
+-- `group_16` meets its contract: after a lines the plane has gone along a of them.
 use native.Mathlib.Omega.{arith}
-use mathlib.Core.Path.{_≡_, refl, sym, ap, _∙_}
-use Prim.Native.Nat.{ℕ, _+_, _-_, _*_, _≤_, _<_}
+use mathlib.Core.Path.{_≡_, refl, sym, ap, _∙_, subst}
+use Prim.Native.Nat.{ℕ, _-_, _^_, _≤_}
+use lib.ListN.{length}
+use Rattle.loops.specs.Run.{upTo}
+use Rattle.loops.proofs.Runs.{upTo-again}
+use Rattle.filter.specs.Filter.{tables, passOf, planeOf, lineOf}
+use Rattle.filter.specs.Ready.{Stored, Under}
+use Rattle.filter.specs.Lines.{unitsAcross}
+use Rattle.filter.proofs.Groups.{some-lines, inner-of, start-idle, group-whole}
+use borrow.Author.Needs.{needs}
 use Rattle.filter.proofs.group_16.Statement.{statement}
 use Rattle.filter.proofs.group_16.Tie as tie
-use Rattle.filter.proofs.group_16.Reads as reads
-use Rattle.filter.proofs.group_16.Lts as lts
-use Rattle.filter.proofs.line_16.Reads as line-16-reads
-use Rattle.filter.proofs.lines.first_unit.Reads as first-unit-reads
-use Rattle.filter.proofs.lines.units_across.Reads as units-across-reads
 
 abbrev Inv-loop : tie.InvT-loop
-Inv-loop dst₀ c rowwise k g levels masks e i depth n first a₀ dst a = ?
+Inv-loop dst₀ c rowwise k g levels masks e i depth n first a₀ dst a = (first ≤ a) × (a ≤ n) × (length dst ≡ length dst₀) × (dst ≡ upTo (lineOf (planeOf c (tables depth levels masks e i)) (passOf rowwise) k g) a dst₀) × Under (2 ^ depth) c (passOf rowwise) k dst
 
 abbrev μ-loop : tie.MeasureT-loop
-μ-loop dst₀ c rowwise k g levels masks e i depth n first a₀ dst a = ?
+μ-loop dst₀ c rowwise k g levels masks e i depth n first a₀ dst a = n - a
 
--- src/lib.rt:153:9
 units-across-requires : tie.Need-units-across-requires Inv-loop μ-loop
-units-across-requires c κs = search needs
+units-across-requires c κs = let t = c .before .before .before in (t .pre .0 .proper .ssx-le, t .pre .0 .proper .ssy-le, t .pre .0 .wide, t .pre .0 .high, t .pre .1 .row, omega (arith, t .pre .0 .wide, t .pre .2))
 
--- src/lib.rt:154:9
 first-unit-requires : tie.Need-first-unit-requires Inv-loop μ-loop
 first-unit-requires c κs = search needs
 
--- src/lib.rt:155:5
 loop-holds : tie.Need-loop-holds Inv-loop μ-loop
-loop-holds c = search needs
+loop-holds c = let t = c .before .before .before .before .before in let a = t .args in (omega arith, omega (arith, c .first-unit .ensures, c .before .units-across .ensures, some-lines (a .c) (tables (a .depth) (a .levels .now) (a .masks .now) (a .e .now) (a .i .now)) (a .k) (a .g) _ (t .pre .0) (passOf (a .rowwise)) (t .pre .1 .row) (t .pre .2)), refl, sym (ap (λ (n : ℕ). upTo (lineOf (planeOf (a .c) (tables (a .depth) (a .levels .now) (a .masks .now) (a .e .now) (a .i .now))) (passOf (a .rowwise)) (a .k) (a .g)) n (a .dst .now)) (c .first-unit .ensures) ∙ start-idle (a .c) (tables (a .depth) (a .levels .now) (a .masks .now) (a .e .now) (a .i .now)) (a .k) (a .g) (a .dst .now) (passOf (a .rowwise))), t .pre .5)
 
--- src/lib.rt:156:9
 line-16-requires : tie.Need-line-16-requires Inv-loop μ-loop
-line-16-requires c κs = search needs
+line-16-requires c κs = let t = c .before .before .before .before .before .before .before .before in let a = t .args in let l = c .before .before .loop in (subst (Stored (a .c) (tables (a .depth) (a .levels .now) (a .masks .now) (a .e .now) (a .i .now))) (sym (l .inv .2)) (t .pre .0), t .pre .1, inner-of (a .c) (tables (a .depth) (a .levels .now) (a .masks .now) (a .e .now) (a .i .now)) (a .k) (a .g) _ (t .pre .0) (l .a) (passOf (a .rowwise)) (t .pre .2) (omega (arith, c .before .before .before .first-unit .ensures)) (omega (arith, c .before .before .before .before .units-across .ensures)), t .pre .3, t .pre .4, l .inv .4)
 
--- src/lib.rt:155:9
 add-a : tie.Need-add-a Inv-loop μ-loop
 add-a c = search needs
 
--- src/lib.rt:155:5
 loop-less : tie.Need-loop-less Inv-loop μ-loop
 loop-less c = search needs
 
--- src/lib.rt:155:5
 loop-again : tie.Need-loop-again Inv-loop μ-loop
-loop-again c = search needs
+loop-again c = let t = c .before .before .before .before .before .before .before .before .before .before .before in let a = t .args in let l = c .before .before .before .before .before .loop in (omega arith, omega arith, c .before .before .line-16 .kept .0 ∙ l .inv .2, upTo-again (lineOf (planeOf (a .c) (tables (a .depth) (a .levels .now) (a .masks .now) (a .e .now) (a .i .now))) (passOf (a .rowwise)) (a .k) (a .g)) (l .a) (a .dst .now) (l .inv .3) (c .before .before .line-16 .ensures .0), c .before .before .line-16 .ensures .1)
 
--- src/lib.rt:138:1
 same-length : tie.Need-same-length Inv-loop μ-loop
-same-length c = search needs
+same-length c = c .before .loop .inv .2
 
--- src/lib.rt:138:1
 returns : tie.Need-returns Inv-loop μ-loop
-returns c = search needs
+returns c = let t = c .before .before .before .before .before .before .before in let a = t .args in let l = c .before .loop in let e : l .a ≡ unitsAcross (a .c) (passOf (a .rowwise)) (a .k) (a .g) = omega (arith, c .before .before .before .units-across .ensures) in (l .inv .3 ∙ ap (λ (n : ℕ). upTo (lineOf (planeOf (a .c) (tables (a .depth) (a .levels .now) (a .masks .now) (a .e .now) (a .i .now))) (passOf (a .rowwise)) (a .k) (a .g)) n (a .dst .now)) e ∙ group-whole (a .c) (tables (a .depth) (a .levels .now) (a .masks .now) (a .e .now) (a .i .now)) (a .k) (a .g) (a .dst .now) (passOf (a .rowwise)), l .inv .4)
 
 pub group-16-spec : {M : Type 1} → statement M
 group-16-spec =
