@@ -4,3 +4,5 @@ pub mod Filter
 pub mod Ready
 -- one line of its units, as it is walked
 pub mod Lines
+-- what holds of every pass
+pub mod Promises
