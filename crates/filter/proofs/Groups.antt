@@ -94,10 +94,10 @@ module _ (c : Component) (t : Tables) (d : Pass) (k g a : ℕ) (l : List ℕ) wh
       ∙ upTo-idle (λ v. act (planeOf c t) d (unitAt c d k g a, firstPlace c d k g + v)) 0 (places c d)
       (λ v _ m. idle (planeOf c t) d (unitAt c d k g a, firstPlace c d k g + v) (h v) m) (omega arith) l
 
-  at-start : unitAt c d k g a ≡ 0 → lineOf (planeOf c t) d k g a l ≡ l
+  pub at-start : unitAt c d k g a ≡ 0 → lineOf (planeOf c t) d k g a l ≡ l
   at-start e = no-edges (λ v. ap (λ (u : ℕ). inner u (edge (gridOf c) (t .masks) d (unitAt c d k g a, firstPlace c d k g + v))) e)
 
-  past-end : unitsOf (gridOf c) d ≤ unitAt c d k g a → lineOf (planeOf c t) d k g a l ≡ l
+  pub past-end : unitsOf (gridOf c) d ≤ unitAt c d k g a → lineOf (planeOf c t) d k g a l ≡ l
   unfolding edge
   past-end h =
       no-edges (λ v. ap (inner (unitAt c d k g a)) (rw (le-ltb (unitAt c d k g a) (unitsOf (gridOf c) d) h) refl) ∙ inner-none (unitAt c d k g a))

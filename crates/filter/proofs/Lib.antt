@@ -9,3 +9,5 @@ pub mod Rooms
 pub mod Ranges
 -- The lines of a group, and the groups of a row
 pub mod Groups
+-- What holds of a pass
+pub mod Sweeps

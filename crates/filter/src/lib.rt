@@ -10,6 +10,7 @@ ghost use Rattle.units.specs.Frame.{records};
 ghost use Rattle.filter.specs.Filter.{tables, passOf, planeOf, lineOf, sweepOf};
 ghost use Rattle.filter.specs.Ready.{Stored, Fit, Under};
 ghost use Rattle.filter.specs.Lines.{groupOf, Inner};
+ghost use Rattle.filter.specs.Promises.{Promises};
 
 // One plane of a frame: 0 luma, 1 U, 2 V, with its own subsampling, 0 for luma; its stride in samples, and the pitch of the level bytes in units.
 pub struct Component {
@@ -176,3 +177,8 @@ pub fn plane_16(
         group_16(dst, c, rowwise, k, g, levels, masks, e, i, depth);
     }
 }
+
+// The theorems of specs/Promises.antt are proved.
+pub fn promised()
+    ensures { λ _. ⌜ Promises ⌝ }
+{}

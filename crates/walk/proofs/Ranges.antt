@@ -17,7 +17,7 @@ use Rattle.walk.specs.Ready.{Walkable, InRange}
 use Rattle.walk.proofs.Leaves.{width}
 use Rattle.walk.proofs.Visits.{top, half-pos}
 
-visit-below : (depth : ℕ) (e i : List ℕ) (sa st : ℕ) {len : ℕ} (lvl q : ℕ) (s : List ℕ) → 8 ≤ depth → Width len → reads len * st ≤ q
+pub visit-below : (depth : ℕ) (e i : List ℕ) (sa st : ℕ) {len : ℕ} (lvl q : ℕ) (s : List ℕ) → 8 ≤ depth → Width len → reads len * st ≤ q
     → PieceUnder (2 ^ depth) (reads len) sa st q s → (j : ℕ) → getD s j 0 < 2 ^ depth → getD (visit depth e i sa st len lvl q s) j 0 < 2 ^ depth
 unfolding visit thresholds
 visit-below depth e i sa st {len} lvl q s d w low b j h = go (eqb lvl 0)
