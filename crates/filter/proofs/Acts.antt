@@ -18,11 +18,10 @@ use Rattle.plane.proofs.Pieces.{idle}
 use Rattle.line.specs.Rule.{rule}
 use Rattle.line.specs.Width.{reads, writes}
 use Rattle.units.specs.Memory.{levelAt}
-use Rattle.edges.specs.Edges.{edge}
-use Rattle.walk.specs.Walk.{levelUsed, thresholds, lenOf, Units, setIn, indexAt, visit, visitAt, walked}
+use Rattle.walk.specs.Walk.{levelUsed, thresholds, lenOf, Units, setIn, visit, visitAt, walked}
 use Rattle.walk.specs.Walk as walk
 use Rattle.filter.specs.declared.Component.{Component}
-use Rattle.filter.specs.Filter.{Tables, gridOf, kindOf, levelIn, before, levelOf, planeOf, lineOf}
+use Rattle.filter.specs.Filter.{Tables, kindOf, before, levelOf, planeOf, lineOf}
 use Rattle.filter.specs.Ready.{Stored, Fit}
 use Rattle.filter.specs.Lines.{leftOf, topOf, unitAt, alongStep, backStep, lineIn, unitsIn, Inner}
 use Rattle.filter.proofs.Spots.{firstPlace, places}

@@ -8,7 +8,6 @@ use native.Mathlib.Nat.{add-mul}
 use native.Mathlib.Omega.{arith}
 use lib.ListN.{length, getD}
 use borrow.Author.Tests.{lt-ltb, le-ltb}
-use Rattle.bits.specs.Walk.{visits}
 use Rattle.plane.specs.Line.{Pass, columns, rows, ix, lineStep, sampleStep}
 use Rattle.units.specs.Units.{chromaUnit}
 use Rattle.line.specs.Width.{reads}

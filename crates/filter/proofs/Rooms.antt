@@ -1,44 +1,39 @@
 -- A line may be walked: under the gap rule a piece reads no sample before the plane's start, none past its stored end and, in rows, none past the row, and level bytes and
 -- samples are there.
-use mathlib.Core.Path.{_≡_, refl, sym, ap, _∙_, subst}
+use mathlib.Core.Path.{_≡_, sym, ap, _∙_}
 use mathlib.Core.Bool.{Bool, true, false, cond, not, false≢true}
-use mathlib.Core.List.{List}
 use mathlib.Core.Logic.{by-cases}
 use mathlib.Core.Option.{Option, some, none}
-use Prim.Native.Nat.{ℕ, zero, suc, _+_, _-_, _*_, _/_, _^_, _≤_, _<_}
+use Prim.Native.Nat.{ℕ, zero, suc, _+_, _-_, _*_, _≤_, _<_}
 use native.Mathlib.Decide.{decLt}
 use native.Mathlib.Nat.{add-mul, suc-mul, zero-mul, mul-comm, mul-le-mul-left, mul-le-mul-right}
 use native.Mathlib.Omega.{arith}
 use lib.Dec.{eqb}
 use lib.ListN.{length, getD}
-use borrow.Author.Tests.{lt-ltb, le-ltb}
+use borrow.Author.Tests.{lt-ltb}
 use Rattle.bits.specs.Bit.{hasBit}
-use Rattle.bits.specs.Walk.{visits}
-use Rattle.plane.specs.Gap.{Close}
 use Rattle.plane.specs.Line.{Pass, columns, rows, ix, lineStep, sampleStep}
 use Rattle.plane.specs.Plane.{luma, chroma, right, down}
 use Rattle.plane.proofs.Gaps.{Reach, gap-close, after-start, before-end}
 use Rattle.plane.proofs.Pieces.{fair-luma, fair-chroma}
 use Rattle.units.specs.Frame.{records}
 use Rattle.units.specs.Memory.{levelAt}
-use Rattle.units.specs.Units.{chromaUnit, chromaUnits}
+use Rattle.units.specs.Units.{chromaUnit}
 use Rattle.units.proofs.Places.{chroma-units-le, level-in}
 use Rattle.edges.specs.Edges.{other, unitsOf, side, passNo, edge}
 use Rattle.line.specs.Width.{reads}
-use Rattle.piece.specs.Samples.{index, PieceUnder}
-use Rattle.gap.specs.Lines.{recordRow, firstLine}
+use Rattle.gap.specs.Lines.{recordRow}
 use Rattle.gap.specs.Numbers.{sbUnits, storedUnits, part}
 use Rattle.gap.specs.Promises.{Nowhere}
 use Rattle.gap.proofs.Shapes.{row-lines, row-halves, units-stored}
 use Rattle.gap.proofs.Told.{edge-in}
-use Rattle.walk.specs.Ready.{Ready, Walkable, InRange}
-use Rattle.walk.specs.Walk.{lenOf, Units, setIn, lenAt, indexAt, walked}
+use Rattle.walk.specs.Ready.{Ready, Walkable}
+use Rattle.walk.specs.Walk.{lenOf, Units, setIn, lenAt}
 use Rattle.walk.specs.Walk as walk
-use Rattle.walk.proofs.Ranges.{visits-below}
 use Rattle.filter.specs.declared.Component.{Component}
 use Rattle.filter.specs.Filter.{Tables, gridOf, kindOf, before}
-use Rattle.filter.specs.Ready.{Stored, Fit, Under}
-use Rattle.filter.specs.Lines.{leftOf, topOf, unitAt, alongStep, backStep, lineIn, unitsIn, Inner}
+use Rattle.filter.specs.Ready.{Stored, Fit}
+use Rattle.filter.specs.Lines.{unitAt, alongStep, lineIn, unitsIn, Inner}
 use Rattle.filter.proofs.Spots.{firstPlace, places, row-sizes}
 use Rattle.filter.proofs.Words.{picked, none-over}
 use Rattle.filter.proofs.Acts.{reads-is, index-is, level-place, before-place}

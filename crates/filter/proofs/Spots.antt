@@ -1,23 +1,23 @@
 -- Where a line of units lies: its record, its unit there, the halves of its masks and the places along it, pass by pass, at each subsampling and each size of superblocks.
 use mathlib.Core.Path.{_≡_, refl, sym, ap, _∙_}
 use mathlib.Core.Logic.{_⊎_, ⊎-elim}
-use Prim.Native.Nat.{ℕ, _+_, _*_, _/_, _%_, _^_, _≤_, _<_}
+use Prim.Native.Nat.{ℕ, _+_, _*_, _/_, _%_, _≤_, _<_}
 use native.Mathlib.Nat.{mul-assoc, mul-le-mul-right, add-mul}
 use native.Mathlib.Omega.{arith}
 use Rattle.plane.specs.Line.{Pass, columns, rows}
 use Rattle.units.specs.Frame.{records}
 use Rattle.units.specs.Memory.{halfUnits}
-use Rattle.units.specs.Units.{chromaUnit, chromaUnits}
-use Rattle.edges.specs.Edges.{other, unitsOf, side, half, recordAt}
+use Rattle.units.specs.Units.{chromaUnit}
+use Rattle.edges.specs.Edges.{unitsOf, side, half, recordAt}
 use Rattle.gap.specs.Lines.{recordRow, firstLine}
 use Rattle.gap.specs.Promises.{Across, Along}
 use Rattle.gap.proofs.Frames.{side-le}
 use Rattle.gap.proofs.Masks.{along}
-use Rattle.gap.proofs.Shapes.{by-ss, RowLines, row-lines, RowHalves, row-halves, units-stored, record-starts}
+use Rattle.gap.proofs.Shapes.{by-ss, row-lines, row-halves}
 use Rattle.filter.specs.declared.Component.{Component}
 use Rattle.filter.specs.Filter.{Tables, gridOf}
-use Rattle.filter.specs.Ready.{Stored, Fit}
-use Rattle.filter.specs.Lines.{leftOf, topOf, unitAt, acrossOf, unitsAcross, unitIn, firstHalf, halvesOf, Inner}
+use Rattle.filter.specs.Ready.{Stored}
+use Rattle.filter.specs.Lines.{topOf, unitAt, unitIn, firstHalf, halvesOf, Inner}
 
 -- the record of row k and group g, by its numbers across the pass and along it
 abbrev pub recAcross : Component → Pass → ℕ → ℕ → ℕ

@@ -1,5 +1,5 @@
 -- A pass over a superblock row is the plane's, keeps the length, and keeps the samples in range: each line does, by its walk or by doing nothing.
-use mathlib.Core.Path.{_≡_, refl, sym, ap, _∙_, subst}
+use mathlib.Core.Path.{_≡_, refl, sym, _∙_, subst}
 use mathlib.Core.Bool.{not}
 use mathlib.Core.List.{List}
 use mathlib.Core.Logic.{by-cases}
@@ -13,14 +13,14 @@ use lib.ListN.{length, getD}
 use Rattle.loops.specs.Run.{upTo}
 use Rattle.bits.specs.Mark.{Words}
 use Rattle.plane.specs.Line.{Pass, columns, rows, Rule, Piece, ix, lineStep, sampleStep, changed, lineAt, pieceAt, piece}
-use Rattle.plane.specs.Plane.{Plane, luma, chroma, class, ruleOf, act, colsOf, rowsOf}
+use Rattle.plane.specs.Plane.{Plane, class, ruleOf, act, colsOf, rowsOf}
 use Rattle.plane.proofs.Lines.{put-keeps}
 use Rattle.plane.proofs.Pieces.{idle}
 use Rattle.units.specs.Frame.{records}
 use Rattle.edges.specs.Edges.{unitsOf}
 use Rattle.line.specs.Width.{reads}
 use Rattle.piece.specs.Samples.{PieceUnder}
-use Rattle.walk.specs.Walk.{lenOf, visit, walked}
+use Rattle.walk.specs.Walk.{lenOf, walked}
 use Rattle.walk.proofs.Leaves.{width}
 use Rattle.walk.proofs.Ranges.{visit-below, visits-below}
 use Rattle.filter.specs.declared.Component.{Component}

@@ -8,19 +8,18 @@ use native.Mathlib.Decide.{decLt, ℕ-discrete}
 use native.Mathlib.Nat.{add-zero, div-lt-iff-lt-mul, div-eq-of-lt, mod-eq-of-lt}
 use native.Mathlib.Omega.{arith}
 use lib.Bits.{bitOr}
-use lib.Dec.{eqb, ltb}
+use lib.Dec.{eqb}
 use lib.ListN.{getD}
 use lib.Pow.{pow-pos, pow-mono}
 use borrow.Author.Tests.{lt-ltb, le-ltb, eq-eqb, ne-eqb}
 use Rattle.bits.specs.Bit.{bit, hasBit}
 use Rattle.bits.specs.Mark.{isSet}
 use Rattle.bits.proofs.Bits.{hasBit-0, hasBit-or, hasBit-nil, has-of-bit, bit-small, bit-low, bit-high, bit-nil}
-use Rattle.plane.specs.Line.{Pass, columns, rows}
+use Rattle.plane.specs.Line.{Pass}
 use Rattle.units.specs.Frame.{records}
-use Rattle.edges.specs.Edges.{Grid, other, unitsOf, side, half, passNo, recordAt, classes, wordIn, edgeBit, highest, edge}
+use Rattle.edges.specs.Edges.{Grid, other, unitsOf, half, passNo, recordAt, classes, wordIn, edgeBit, highest, edge}
 use Rattle.gap.specs.Lines.{recordRow}
 use Rattle.gap.specs.Numbers.{halfBit}
-use Rattle.gap.specs.Promises.{Outside}
 use Rattle.gap.specs.Track.{stepOf, startOf}
 use Rattle.gap.proofs.Masks.{along, edge-bit, word-in}
 use Rattle.walk.specs.Walk.{Units, setIn}
@@ -29,7 +28,7 @@ use Rattle.filter.specs.declared.Component.{Component}
 use Rattle.filter.specs.Filter.{Tables, gridOf}
 use Rattle.filter.specs.Ready.{Stored, Fit}
 use Rattle.filter.specs.Lines.{unitAt, unitIn, maskAt, firstHalf, halvesOf, halvesAt, classAt, wordOf, lineIn, unitsIn, Inner}
-use Rattle.filter.proofs.Spots.{recAcross, recAlong, firstPlace, places, Spot, spot}
+use Rattle.filter.proofs.Spots.{recAlong, firstPlace, places, Spot, spot}
 
 -- ---- two halves of h bits in one word
 

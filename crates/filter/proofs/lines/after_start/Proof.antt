@@ -1,10 +1,6 @@
 -- `after_start` meets its contract, by the number.
 use mathlib.Core.Path.{refl}
 use borrow.Author.Tests.{eq-eqb, ne-eqb}
-use borrow.Author.Needs.{needs}
-use native.Mathlib.Omega.{arith}
-use mathlib.Core.Path.{_≡_, refl, sym, ap, _∙_}
-use Prim.Native.Nat.{ℕ, _+_, _-_, _*_, _≤_, _<_}
 use Rattle.filter.proofs.lines.after_start.Statement.{statement}
 use Rattle.filter.proofs.lines.after_start.Tie as tie
 

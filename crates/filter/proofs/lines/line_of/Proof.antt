@@ -3,10 +3,6 @@ use mathlib.Core.Path.{sym, ap, _∙_}
 use mathlib.Core.Bool.{Bool}
 use Rattle.filter.specs.Filter.{passOf}
 use Rattle.filter.specs.Lines.{lineIn}
-use borrow.Author.Needs.{needs}
-use native.Mathlib.Omega.{arith}
-use mathlib.Core.Path.{_≡_, refl, sym, ap, _∙_}
-use Prim.Native.Nat.{ℕ, _+_, _-_, _*_, _≤_, _<_}
 use Rattle.filter.proofs.lines.line_of.Statement.{statement}
 use Rattle.filter.proofs.lines.line_of.Tie as tie
 
