@@ -1,0 +1,6 @@
+-- A call that filters, and its planes
+pub mod Call
+-- the tests of its numbers
+pub mod Tests
+-- what they refuse, in document 01's words
+pub mod Faults
