@@ -1,57 +1,69 @@
+-- `given` meets its contract: each test is asked where those before it have failed.
+use mathlib.Core.Path.{refl, sym, _∙_}
 use borrow.Author.Needs.{needs}
+use Rattle.checks.proofs.Passed.{shaped, roomy}
 use Rattle.checks.proofs.given.Statement.{statement}
 use Rattle.checks.proofs.given.Tie as tie
-use Rattle.checks.proofs.given.Reads as reads
-use Rattle.checks.proofs.given.Lts as lts
-use Rattle.checks.proofs.tests.depth_bad.Reads as depth-bad-reads
-use Rattle.checks.proofs.tests.length_bad.Reads as length-bad-reads
-use Rattle.checks.proofs.tests.level_bad.Reads as level-bad-reads
-use Rattle.checks.proofs.tests.levels_bad.Reads as levels-bad-reads
-use Rattle.checks.proofs.tests.shape_bad.Reads as shape-bad-reads
 
--- src/lib.rt:51:8
 level-bad-requires : tie.Need-level-bad-requires
 level-bad-requires c κs = search needs
 
--- src/lib.rt:52:9
 returns : tie.Need-returns
-returns c = ?
+returns c = rw (sym (c .before .level-bad .ensures) ∙ c .if1 .taken) refl
 
--- src/lib.rt:54:8
 depth-bad-requires : tie.Need-depth-bad-requires
 depth-bad-requires c κs = search needs
 
--- src/lib.rt:55:9
 returns-2 : tie.Need-returns-2
-returns-2 c = ?
+returns-2 c = rw (
+  sym (c .before .before .before .level-bad .ensures) ∙ c .before .before .if1 .left,
+  sym (c .before .depth-bad .ensures) ∙ c .if2 .taken,
+) refl
 
--- src/lib.rt:57:8
 shape-bad-requires : tie.Need-shape-bad-requires
 shape-bad-requires c κs = search needs
 
--- src/lib.rt:58:9
 returns-3 : tie.Need-returns-3
-returns-3 c = ?
+returns-3 c = rw (
+  sym (c .before .before .before .before .before .level-bad .ensures) ∙ c .before .before .before .before .if1 .left,
+  sym (c .before .before .before .depth-bad .ensures) ∙ c .before .before .if2 .left,
+  sym (c .before .shape-bad .ensures) ∙ c .if3 .taken,
+) refl
 
--- src/lib.rt:60:8
 length-bad-requires : tie.Need-length-bad-requires
-length-bad-requires c κs = ?
+length-bad-requires c κs = shaped (c .before .before .before .before .before .before .before .args .c) (sym (c .before .shape-bad .ensures) ∙ c .if3 .left)
 
--- src/lib.rt:61:9
 returns-4 : tie.Need-returns-4
-returns-4 c = ?
+returns-4 c = rw (
+  sym (c .before .before .before .before .before .before .before .level-bad .ensures) ∙ c .before .before .before .before .before .before .if1 .left,
+  sym (c .before .before .before .before .before .depth-bad .ensures) ∙ c .before .before .before .before .if2 .left,
+  sym (c .before .before .before .shape-bad .ensures) ∙ c .before .before .if3 .left,
+  sym (c .before .length-bad .ensures) ∙ c .if4 .taken,
+) refl
 
--- src/lib.rt:63:8
 levels-bad-requires : tie.Need-levels-bad-requires
-levels-bad-requires c κs = ?
+levels-bad-requires c κs = (
+  shaped (c .before .before .before .before .before .before .before .before .before .args .c) (sym (c .before .before .before .shape-bad .ensures) ∙ c .before .before .if3 .left),
+  (c .before .before .before .before .before .before .before .before .before .args .masks, roomy (c .before .before .before .before .before .before .before .before .before .args .c) _ (c .before .before .before .before .before .before .before .before .before .args .masks) (sym (c .before .length-bad .ensures) ∙ c .if4 .left)),
+)
 
--- src/lib.rt:64:9
 returns-5 : tie.Need-returns-5
-returns-5 c = ?
+returns-5 c = rw (
+  sym (c .before .before .before .before .before .before .before .before .before .level-bad .ensures) ∙ c .before .before .before .before .before .before .before .before .if1 .left,
+  sym (c .before .before .before .before .before .before .before .depth-bad .ensures) ∙ c .before .before .before .before .before .before .if2 .left,
+  sym (c .before .before .before .before .before .shape-bad .ensures) ∙ c .before .before .before .before .if3 .left,
+  sym (c .before .before .before .length-bad .ensures) ∙ c .before .before .if4 .left,
+  sym (c .before .levels-bad .ensures) ∙ c .if5 .taken,
+) refl
 
--- src/lib.rt:48:1
 returns-6 : tie.Need-returns-6
-returns-6 c = ?
+returns-6 c = rw (
+  sym (c .before .before .before .before .before .before .before .before .before .level-bad .ensures) ∙ c .before .before .before .before .before .before .before .before .if1 .left,
+  sym (c .before .before .before .before .before .before .before .depth-bad .ensures) ∙ c .before .before .before .before .before .before .if2 .left,
+  sym (c .before .before .before .before .before .shape-bad .ensures) ∙ c .before .before .before .before .if3 .left,
+  sym (c .before .before .before .length-bad .ensures) ∙ c .before .before .if4 .left,
+  sym (c .before .levels-bad .ensures) ∙ c .if5 .left,
+) refl
 
 pub given-spec : {M : Type 1} → statement M
 given-spec =

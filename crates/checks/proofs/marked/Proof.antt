@@ -1,34 +1,27 @@
+-- `marked` meets its contract: each test is asked where those before it have failed.
+use mathlib.Core.Path.{refl, sym, _∙_}
 use borrow.Author.Needs.{needs}
+use Rattle.checks.proofs.Passed.{off, on}
 use Rattle.checks.proofs.marked.Statement.{statement}
 use Rattle.checks.proofs.marked.Tie as tie
-use Rattle.checks.proofs.marked.Reads as reads
-use Rattle.checks.proofs.marked.Lts as lts
-use Rattle.checks.proofs.tests.found.Reads as found-reads
-use Rattle.checks.proofs.tests.inside.Reads as inside-reads
 
--- src/lib.rt:74:9
 inside-requires : tie.Need-inside-requires
 inside-requires c κs = search needs
 
--- src/lib.rt:75:9
 returns : tie.Need-returns
-returns c = ?
+returns c = rw (off (c .before .inside .ensures) (c .if1 .taken)) refl
 
--- src/lib.rt:77:9
 found-requires : tie.Need-found-requires
-found-requires c κs = ?
+found-requires c κs = (c .before .before .before .pre .0, on (c .before .inside .ensures) (c .if1 .left), c .before .before .before .pre .1)
 
--- src/lib.rt:79:9
 returns-2 : tie.Need-returns-2
-returns-2 c = ?
+returns-2 c = rw (on (c .before .before .before .inside .ensures) (c .before .before .if1 .left), sym (c .before .found .ensures .0) ∙ c .if2 .taken) refl
 
--- src/lib.rt:82:9
 returns-3 : tie.Need-returns-3
-returns-3 c = ?
+returns-3 c = rw (on (c .before .before .before .before .inside .ensures) (c .before .before .before .if1 .left), sym (c .before .before .found .ensures .0) ∙ c .before .if2 .left, sym (c .before .before .found .ensures .1) ∙ c .if3 .taken) refl
 
--- src/lib.rt:70:1
 returns-4 : tie.Need-returns-4
-returns-4 c = ?
+returns-4 c = rw (on (c .before .before .before .before .inside .ensures) (c .before .before .before .if1 .left), sym (c .before .before .found .ensures .0) ∙ c .before .if2 .left, sym (c .before .before .found .ensures .1) ∙ c .if3 .left) refl
 
 pub marked-spec : {M : Type 1} → statement M
 marked-spec =

@@ -1,46 +1,39 @@
+-- `chroma_high` meets its contract: what the numbers before it leave is what the scan asks.
+use mathlib.Core.Path.{refl}
 use borrow.Author.Needs.{needs}
+use Rattle.checks.proofs.Passed.{levels-fit, ssx-le, ssy-le}
 use Rattle.checks.proofs.tests.chroma_high.Statement.{statement}
 use Rattle.checks.proofs.tests.chroma_high.Tie as tie
-use Rattle.checks.proofs.tests.chroma_high.Reads as reads
-use Rattle.checks.proofs.tests.chroma_high.Lts as lts
-use Rattle.checks.proofs.tests.pass_of.Reads as pass-of-reads
-use Rattle.scans.proofs.chroma_levels_high.Reads as chroma-levels-high-reads
-use Rattle.units.proofs.frame.superblock_units.Reads as superblock-units-reads
-use Rattle.units.proofs.layout.ss_hor.Reads as ss-hor-reads
-use Rattle.units.proofs.layout.ss_ver.Reads as ss-ver-reads
-use Rattle.units.proofs.luma_units.Reads as luma-units-reads
 
--- src/tests.rt:93:9
 luma-units-requires : tie.Need-luma-units-requires
 luma-units-requires c κs = search needs
 
--- src/tests.rt:94:9
 luma-units-requires-2 : tie.Need-luma-units-requires-2
 luma-units-requires-2 c κs = search needs
 
--- src/tests.rt:95:9
 superblock-units-requires : tie.Need-superblock-units-requires
 superblock-units-requires c κs = search needs
 
--- src/tests.rt:96:9
 ss-hor-requires : tie.Need-ss-hor-requires
 ss-hor-requires c κs = search needs
 
--- src/tests.rt:97:9
 ss-ver-requires : tie.Need-ss-ver-requires
 ss-ver-requires c κs = search needs
 
--- src/tests.rt:98:71
 pass-of-requires : tie.Need-pass-of-requires
 pass-of-requires c κs = search needs
 
--- src/tests.rt:98:5
 chroma-levels-high-requires : tie.Need-chroma-levels-high-requires
-chroma-levels-high-requires c κs = ?
+chroma-levels-high-requires c κs =
+    let a = c .before .before .before .before .before .before .before .args .c in
+    let p = c .before .before .before .before .before .before .before .pre in (
+      rw (c .before .before .before .before .before .luma-units .ensures, c .before .before .before .before .luma-units2 .ensures, c .before .before .before .superblock-units .ensures) (levels-fit a _ _ (p .0) (p .1) (p .2 .1)),
+      rw (c .before .before .ss-hor .ensures) (ssx-le a 1),
+      rw (c .before .ss-ver .ensures) (ssy-le a 1),
+    )
 
--- src/tests.rt:89:1
 returns : tie.Need-returns
-returns c = ?
+returns c = rw (c .chroma-levels-high .ensures, c .before .before .before .before .before .before .luma-units .ensures, c .before .before .before .before .before .luma-units2 .ensures, c .before .before .before .before .superblock-units .ensures, c .before .before .before .ss-hor .ensures, c .before .before .ss-ver .ensures, c .before .pass-of .ensures) refl
 
 pub chroma-high-spec : {M : Type 1} → statement M
 chroma-high-spec =

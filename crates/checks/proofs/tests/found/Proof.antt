@@ -1,31 +1,24 @@
+-- `found` meets its contract: luma, and chroma where it is filtered.
 use borrow.Author.Needs.{needs}
+use Rattle.checks.proofs.Passed.{off, on}
+use Rattle.checks.proofs.Planes.{found-luma, found-all}
 use Rattle.checks.proofs.tests.found.Statement.{statement}
 use Rattle.checks.proofs.tests.found.Tie as tie
-use Rattle.checks.proofs.tests.found.Reads as reads
-use Rattle.checks.proofs.tests.found.Lts as lts
-use Rattle.checks.proofs.tests.chroma_found.Reads as chroma-found-reads
-use Rattle.checks.proofs.tests.chroma_on.Reads as chroma-on-reads
-use Rattle.checks.proofs.tests.luma_found.Reads as luma-found-reads
 
--- src/tests.rt:231:9
 luma-found-requires : tie.Need-luma-found-requires
 luma-found-requires c κs = search needs
 
--- src/tests.rt:232:9
 chroma-on-requires : tie.Need-chroma-on-requires
 chroma-on-requires c κs = search needs
 
--- src/tests.rt:233:9
 returns : tie.Need-returns
-returns c = ?
+returns c = found-luma (c .before .before .before .before .args .c) _ _ (c .before .before .luma-found .ensures) (off (c .before .chroma-on .ensures) (c .if1 .taken))
 
--- src/tests.rt:235:9
 chroma-found-requires : tie.Need-chroma-found-requires
 chroma-found-requires c κs = search needs
 
--- src/tests.rt:227:1
 returns-2 : tie.Need-returns-2
-returns-2 c = ?
+returns-2 c = found-all (c .before .before .before .before .before .before .before .before .before .args .c) _ _ (c .before .before .before .before .before .before .before .luma-found .ensures) _ (c .before .before .before .before .chroma-found .ensures) (on (c .before .before .before .before .before .before .chroma-on .ensures) (c .before .before .before .before .before .if1 .left))
 
 pub found-spec : {M : Type 1} → statement M
 found-spec =

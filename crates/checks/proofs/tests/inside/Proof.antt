@@ -1,27 +1,27 @@
+-- `inside` meets its contract: either size of superblocks is one that can be counted.
+use mathlib.Core.Logic.{⊎-elim}
+use mathlib.Core.Path.{refl}
+use native.Mathlib.Omega.{arith}
 use borrow.Author.Needs.{needs}
+use Rattle.checks.proofs.Passed.{sizes}
 use Rattle.checks.proofs.tests.inside.Statement.{statement}
 use Rattle.checks.proofs.tests.inside.Tie as tie
-use Rattle.checks.proofs.tests.inside.Reads as reads
-use Rattle.checks.proofs.tests.inside.Lts as lts
-use Rattle.units.proofs.frame.superblock_units.Reads as superblock-units-reads
-use Rattle.units.proofs.frame.superblocks_along.Reads as superblocks-along-reads
-use Rattle.units.proofs.luma_units.Reads as luma-units-reads
 
--- src/tests.rt:76:31
 luma-units-requires : tie.Need-luma-units-requires
 luma-units-requires c κs = search needs
 
--- src/tests.rt:76:53
 superblock-units-requires : tie.Need-superblock-units-requires
 superblock-units-requires c κs = search needs
 
--- src/tests.rt:76:13
 superblocks-along-requires : tie.Need-superblocks-along-requires
-superblocks-along-requires c κs = ?
+superblocks-along-requires c κs =
+    let e = c .before .luma-units .ensures in
+    let f = c .superblock-units .ensures in
+    let s = c .before .before .pre in
+    (omega (arith, s .high), ⊎-elim (λ q. omega arith) (λ q. omega arith) (sizes _ s), ⊎-elim (λ q. omega arith) (λ q. omega arith) (sizes _ s))
 
--- src/tests.rt:72:1
 returns : tie.Need-returns
-returns c = ?
+returns c = rw (c .before .superblocks-along .ensures, c .before .before .before .luma-units .ensures, c .before .before .superblock-units .ensures) refl
 
 pub inside-spec : {M : Type 1} → statement M
 inside-spec =

@@ -1,40 +1,32 @@
+-- `levels_bad` meets its contract: outside the frame nothing, inside it luma, and chroma where it is filtered.
 use borrow.Author.Needs.{needs}
+use Rattle.checks.proofs.Passed.{off, on}
+use Rattle.checks.proofs.Planes.{levels-out, levels-luma, levels-all}
 use Rattle.checks.proofs.tests.levels_bad.Statement.{statement}
 use Rattle.checks.proofs.tests.levels_bad.Tie as tie
-use Rattle.checks.proofs.tests.levels_bad.Reads as reads
-use Rattle.checks.proofs.tests.levels_bad.Lts as lts
-use Rattle.checks.proofs.tests.chroma_high.Reads as chroma-high-reads
-use Rattle.checks.proofs.tests.chroma_on.Reads as chroma-on-reads
-use Rattle.checks.proofs.tests.inside.Reads as inside-reads
-use Rattle.checks.proofs.tests.luma_high.Reads as luma-high-reads
 
--- src/tests.rt:105:9
 inside-requires : tie.Need-inside-requires
 inside-requires c κs = search needs
 
--- src/tests.rt:106:9
 returns : tie.Need-returns
-returns c = ?
+returns c = levels-out (c .before .before .before .args .c) _ (off (c .before .inside .ensures) (c .if1 .taken))
 
--- src/tests.rt:108:9
 luma-high-requires : tie.Need-luma-high-requires
-luma-high-requires c κs = ?
+luma-high-requires c κs = (c .before .before .before .pre .0, on (c .before .inside .ensures) (c .if1 .left), c .before .before .before .pre .1)
 
--- src/tests.rt:109:9
 chroma-on-requires : tie.Need-chroma-on-requires
 chroma-on-requires c κs = search needs
 
--- src/tests.rt:110:9
 returns-2 : tie.Need-returns-2
-returns-2 c = ?
+returns-2 c = levels-luma (c .before .before .before .before .before .before .args .c) _ (on (c .before .before .before .before .inside .ensures) (c .before .before .before .if1 .left)) (off (c .before .chroma-on .ensures) (c .if2 .taken)) (c .before .before .luma-high .ensures)
 
--- src/tests.rt:112:12
 chroma-high-requires : tie.Need-chroma-high-requires
-chroma-high-requires c κs = ?
+chroma-high-requires c κs = (c .before .before .before .before .before .before .pre .0, on (c .before .before .before .before .inside .ensures) (c .before .before .before .if1 .left), c .before .before .before .before .before .before .pre .1)
 
--- src/tests.rt:101:1
 returns-3 : tie.Need-returns-3
-returns-3 c = ?
+returns-3 c =
+    levels-all (c .before .before .before .before .before .before .before .args .c) _ (on (c .before .before .before .before .before .inside .ensures) (c .before .before .before .before .if1 .left)) (on (c .before .before .chroma-on .ensures) (c .before .if2 .left))
+    (c .before .before .before .luma-high .ensures) (c .chroma-high .ensures)
 
 pub levels-bad-spec : {M : Type 1} → statement M
 levels-bad-spec =

@@ -1,40 +1,37 @@
+-- `luma_found` meets its contract: the walk of its pass, over what the numbers before it leave.
 use borrow.Author.Needs.{needs}
+use Rattle.checks.proofs.Passed.{masks-fit}
 use Rattle.checks.proofs.tests.luma_found.Statement.{statement}
 use Rattle.checks.proofs.tests.luma_found.Tie as tie
-use Rattle.checks.proofs.tests.luma_found.Reads as reads
-use Rattle.checks.proofs.tests.luma_found.Lts as lts
-use Rattle.gap.proofs.luma_columns.Reads as luma-columns-reads
-use Rattle.gap.proofs.luma_rows.Reads as luma-rows-reads
-use Rattle.units.proofs.frame.superblock_units.Reads as superblock-units-reads
-use Rattle.units.proofs.luma_units.Reads as luma-units-reads
 
--- src/tests.rt:203:9
 luma-units-requires : tie.Need-luma-units-requires
 luma-units-requires c κs = search needs
 
--- src/tests.rt:204:9
 luma-units-requires-2 : tie.Need-luma-units-requires-2
 luma-units-requires-2 c κs = search needs
 
--- src/tests.rt:205:9
 superblock-units-requires : tie.Need-superblock-units-requires
 superblock-units-requires c κs = search needs
 
--- src/tests.rt:207:9
 luma-rows-requires : tie.Need-luma-rows-requires
-luma-rows-requires c κs = ?
+luma-rows-requires c κs =
+    let p = c .before .before .before .before .before .pre in
+    rw (c .before .before .before .luma-units .ensures, c .before .before .luma-units2 .ensures, c .before .superblock-units .ensures) (masks-fit (c .before .before .before .before .before .args .c) _ _ (p .0) (p .1) (p .2 .1))
 
--- src/tests.rt:207:9
 returns : tie.Need-returns
-returns c = ?
+returns c =
+    rw (c .before .if1 .taken)
+    (rw (c .before .before .before .before .luma-units .ensures, c .before .before .before .luma-units2 .ensures, c .before .before .superblock-units .ensures) at (c .luma-rows .ensures))
 
--- src/tests.rt:209:5
 luma-columns-requires : tie.Need-luma-columns-requires
-luma-columns-requires c κs = ?
+luma-columns-requires c κs =
+    let p = c .before .before .before .before .before .pre in
+    rw (c .before .before .before .luma-units .ensures, c .before .before .luma-units2 .ensures, c .before .superblock-units .ensures) (masks-fit (c .before .before .before .before .before .args .c) _ _ (p .0) (p .1) (p .2 .1))
 
--- src/tests.rt:199:1
 returns-2 : tie.Need-returns-2
-returns-2 c = ?
+returns-2 c =
+    rw (c .before .if1 .left)
+    (rw (c .before .before .before .before .luma-units .ensures, c .before .before .before .luma-units2 .ensures, c .before .before .superblock-units .ensures) at (c .luma-columns .ensures))
 
 pub luma-found-spec : {M : Type 1} → statement M
 luma-found-spec =

@@ -1,36 +1,30 @@
+-- `luma_high` meets its contract: what the numbers before it leave is what the scan asks.
+use mathlib.Core.Path.{refl}
 use borrow.Author.Needs.{needs}
+use Rattle.checks.proofs.Passed.{levels-fit, pass-below}
 use Rattle.checks.proofs.tests.luma_high.Statement.{statement}
 use Rattle.checks.proofs.tests.luma_high.Tie as tie
-use Rattle.checks.proofs.tests.luma_high.Reads as reads
-use Rattle.checks.proofs.tests.luma_high.Lts as lts
-use Rattle.checks.proofs.tests.pass_of.Reads as pass-of-reads
-use Rattle.scans.proofs.luma_levels_high.Reads as luma-levels-high-reads
-use Rattle.units.proofs.frame.superblock_units.Reads as superblock-units-reads
-use Rattle.units.proofs.luma_units.Reads as luma-units-reads
 
--- src/tests.rt:83:9
 luma-units-requires : tie.Need-luma-units-requires
 luma-units-requires c κs = search needs
 
--- src/tests.rt:84:9
 luma-units-requires-2 : tie.Need-luma-units-requires-2
 luma-units-requires-2 c κs = search needs
 
--- src/tests.rt:85:9
 superblock-units-requires : tie.Need-superblock-units-requires
 superblock-units-requires c κs = search needs
 
--- src/tests.rt:86:59
 pass-of-requires : tie.Need-pass-of-requires
 pass-of-requires c κs = search needs
 
--- src/tests.rt:86:5
 luma-levels-high-requires : tie.Need-luma-levels-high-requires
-luma-levels-high-requires c κs = ?
+luma-levels-high-requires c κs =
+    let a = c .before .before .before .before .before .args .c in
+    let p = c .before .before .before .before .before .pre in
+    (rw (c .before .before .before .luma-units .ensures, c .before .before .luma-units2 .ensures, c .before .superblock-units .ensures) (levels-fit a _ _ (p .0) (p .1) (p .2 .1)), rw (c .pass-of .ensures) (pass-below a))
 
--- src/tests.rt:79:1
 returns : tie.Need-returns
-returns c = ?
+returns c = rw (c .luma-levels-high .ensures, c .before .before .before .before .luma-units .ensures, c .before .before .before .luma-units2 .ensures, c .before .before .superblock-units .ensures, c .before .pass-of .ensures) refl
 
 pub luma-high-spec : {M : Type 1} → statement M
 luma-high-spec =

@@ -1,60 +1,56 @@
+-- `plane_bad_16` meets its contract: a plane too short, a row outside the frame, or a scan of its samples.
+use mathlib.Core.Path.{sym, _∙_}
+use borrow.Author.Tests.{not-false}
 use borrow.Author.Needs.{needs}
+use Rattle.checks.proofs.Passed.{off, on, samples-fit, pass-below, ssx-le, ssy-le}
+use Rattle.checks.proofs.Planes.{plane-short, plane-out, plane-read}
 use Rattle.checks.proofs.tests.plane_bad_16.Statement.{statement}
 use Rattle.checks.proofs.tests.plane_bad_16.Tie as tie
-use Rattle.checks.proofs.tests.plane_bad_16.Reads as reads
-use Rattle.checks.proofs.tests.plane_bad_16.Lts as lts
-use Rattle.checks.proofs.tests.hor.Reads as hor-reads
-use Rattle.checks.proofs.tests.inside.Reads as inside-reads
-use Rattle.checks.proofs.tests.pass_of.Reads as pass-of-reads
-use Rattle.checks.proofs.tests.plane_short.Reads as plane-short-reads
-use Rattle.checks.proofs.tests.stride_of.Reads as stride-of-reads
-use Rattle.checks.proofs.tests.ver.Reads as ver-reads
-use Rattle.scans.proofs.samples_high.Reads as samples-high-reads
-use Rattle.units.proofs.frame.superblock_units.Reads as superblock-units-reads
 
--- src/tests.rt:165:8
 plane-short-requires : tie.Need-plane-short-requires
 plane-short-requires c κs = search needs
 
--- src/tests.rt:166:9
 returns : tie.Need-returns
-returns c = ?
+returns c = plane-short (c .before .before .before .args .c) (c .before .before .before .args .n) _ (sym (c .before .plane-short .ensures) ∙ c .if1 .taken)
 
--- src/tests.rt:168:9
 inside-requires : tie.Need-inside-requires
 inside-requires c κs = search needs
 
--- src/tests.rt:169:9
 returns-2 : tie.Need-returns-2
-returns-2 c = ?
+returns-2 c = plane-out (c .before .before .before .before .before .args .c) (c .before .before .before .before .before .args .n) _ (sym (c .before .before .before .plane-short .ensures) ∙ c .before .before .if1 .left) (off (c .before .inside .ensures) (c .if2 .taken))
 
--- src/tests.rt:171:9
 stride-of-requires : tie.Need-stride-of-requires
 stride-of-requires c κs = search needs
 
--- src/tests.rt:172:9
 superblock-units-requires : tie.Need-superblock-units-requires
 superblock-units-requires c κs = search needs
 
--- src/tests.rt:173:9
 pass-of-requires : tie.Need-pass-of-requires
 pass-of-requires c κs = search needs
 
--- src/tests.rt:179:9
 hor-requires : tie.Need-hor-requires
 hor-requires c κs = search needs
 
--- src/tests.rt:180:9
 ver-requires : tie.Need-ver-requires
 ver-requires c κs = search needs
 
--- src/tests.rt:174:5
 samples-high-requires : tie.Need-samples-high-requires
-samples-high-requires c κs = ?
+samples-high-requires c κs =
+    let a = c .before .before .before .before .before .before .before .before .before .before .args .c in
+    let n = c .before .before .before .before .before .before .before .before .before .before .args .n in
+    let p = c .before .before .before .before .before .before .before .before .before .before .pre in (
+      rw (c .before .before .before .before .stride-of .ensures, c .before .hor .ensures, c .ver .ensures, c .before .before .before .superblock-units .ensures)
+          (samples-fit a n _ (p .0) (on (c .before .before .before .before .before .before .inside .ensures) (c .before .before .before .before .before .if2 .left)) (not-false _ (sym (c .before .before .before .before .before .before .before .before .plane-short .ensures) ∙ c .before .before .before .before .before .before .before .if1 .left))),
+      rw (c .before .hor .ensures) (ssx-le a n),
+      rw (c .ver .ensures) (ssy-le a n),
+      p .1,
+      rw (c .before .before .pass-of .ensures) (pass-below a),
+    )
 
--- src/tests.rt:161:1
 returns-3 : tie.Need-returns-3
-returns-3 c = ?
+returns-3 c =
+    plane-read (c .before .before .before .before .before .before .before .before .before .before .before .args .c) (c .before .before .before .before .before .before .before .before .before .before .before .args .n) _ (sym (c .before .before .before .before .before .before .before .before .before .plane-short .ensures) ∙ c .before .before .before .before .before .before .before .before .if1 .left) (on (c .before .before .before .before .before .before .before .inside .ensures) (c .before .before .before .before .before .before .if2 .left))
+    (rw (c .before .before .before .before .before .stride-of .ensures, c .before .before .hor .ensures, c .before .ver .ensures, c .before .before .before .before .superblock-units .ensures, c .before .before .before .pass-of .ensures) at (c .samples-high .ensures))
 
 pub plane-bad-16-spec : {M : Type 1} → statement M
 plane-bad-16-spec =

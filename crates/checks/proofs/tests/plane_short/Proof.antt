@@ -1,41 +1,30 @@
+-- `plane_short` meets its contract: its calls are the definition's test.
+use mathlib.Core.Path.{refl}
 use borrow.Author.Needs.{needs}
+use Rattle.checks.proofs.Passed.{ssx-le, ssy-le, stored-some}
 use Rattle.checks.proofs.tests.plane_short.Statement.{statement}
 use Rattle.checks.proofs.tests.plane_short.Tie as tie
-use Rattle.checks.proofs.tests.plane_short.Reads as reads
-use Rattle.checks.proofs.tests.plane_short.Lts as lts
-use Rattle.checks.proofs.tests.hor.Reads as hor-reads
-use Rattle.checks.proofs.tests.stride_of.Reads as stride-of-reads
-use Rattle.checks.proofs.tests.ver.Reads as ver-reads
-use Rattle.units.proofs.frame.stored_side.Reads as stored-side-reads
-use Rattle.units.proofs.memory.plane_ok.Reads as plane-ok-reads
 
--- src/tests.rt:137:37
 hor-requires : tie.Need-hor-requires
 hor-requires c κs = search needs
 
--- src/tests.rt:137:9
 stored-side-requires : tie.Need-stored-side-requires
-stored-side-requires c κs = ?
+stored-side-requires c κs = (c .before .pre .wide .1, rw (c .hor .ensures) (ssx-le (c .before .args .c) (c .before .args .n)))
 
--- src/tests.rt:138:38
 ver-requires : tie.Need-ver-requires
 ver-requires c κs = search needs
 
--- src/tests.rt:138:9
 stored-side-requires-2 : tie.Need-stored-side-requires-2
-stored-side-requires-2 c κs = ?
+stored-side-requires-2 c κs = (c .before .before .before .pre .high .1, rw (c .ver .ensures) (ssy-le (c .before .before .before .args .c) (c .before .before .before .args .n)))
 
--- src/tests.rt:139:20
 stride-of-requires : tie.Need-stride-of-requires
 stride-of-requires c κs = search needs
 
--- src/tests.rt:139:6
 plane-ok-requires : tie.Need-plane-ok-requires
-plane-ok-requires c κs = ?
+plane-ok-requires c κs = rw (c .before .stored-side2 .ensures, c .before .before .ver .ensures) (stored-some (c .before .before .before .before .before .args .c) (c .before .before .before .before .before .args .n) (c .before .before .before .before .before .pre))
 
--- src/tests.rt:133:1
 returns : tie.Need-returns
-returns c = ?
+returns c = rw (c .plane-ok .ensures, c .before .stride-of .ensures, c .before .before .before .before .stored-side .ensures, c .before .before .stored-side2 .ensures, c .before .before .before .before .before .hor .ensures, c .before .before .before .ver .ensures) refl
 
 pub plane-short-spec : {M : Type 1} → statement M
 plane-short-spec =

@@ -1,0 +1,110 @@
+-- What a call that passes a test has, and what the scans ask of it: the facts that the tests reflect, and `omega` at either size of superblocks.
+use mathlib.Core.Bool.{Bool, true, false, cond, not, _||_, false≢true}
+use mathlib.Core.Logic.{_⊎_, inl, inr, ⊎-elim}
+use mathlib.Core.Path.{_≡_, refl, sym, _∙_}
+use Prim.Native.Nat.{ℕ, zero, suc, _*_, _<_, _≤_}
+use native.Mathlib.Omega.{arith}
+use borrow.Author.Tests.{not-true, not-false, ltb-true}
+use Rattle.loops.proofs.Reflected.{reflects-eqb, reflects-or}
+use Rattle.loops.proofs.Tables.{each-at}
+use Rattle.units.specs.Layout.{layoutOk, ssHor, ssVer}
+use Rattle.units.specs.Frame.{frameOk, superblockOk, stored}
+use Rattle.units.specs.Memory.{levelsOk, planeOk, masksOk}
+use Rattle.units.proofs.Places.{superblock-in, ss-hor-le, ss-ver-le}
+use Rattle.units.proofs.Tests.{reflects-frame, reflects-superblock, reflects-levels, reflects-masks, reflects-plane}
+use Rattle.plane.specs.Line.{Pass, rows, columns}
+use Rattle.edges.specs.Edges.{passNo}
+use Rattle.scans.specs.Fits.{SbRow, LevelsFit, SamplesFit}
+use Rattle.gap.specs.Fits.{MasksFit}
+use Rattle.checks.specs.declared.Call.{Call}
+use Rattle.checks.specs.Call.{passOf, w4, h4, sb4, ssx, ssy, strideOf, Shaped, Roomy}
+use Rattle.checks.specs.Tests.{depthBad, shapeBad, lengthBad, inside}
+
+-- ---- the code's tests, by the contract of what they call
+
+pub off : {r b : Bool} → r ≡ b → not r ≡ true → b ≡ false
+off {r} e h = sym e ∙ not-true r h
+
+pub on : {r b : Bool} → r ≡ b → not r ≡ false → b ≡ true
+on {r} e h = sym e ∙ not-false r h
+
+pub or-off : (a b : Bool) → (a || b) ≡ false → (a ≡ false) × (b ≡ false)
+or-off false b e = (refl, e)
+or-off true b e = absurd (false≢true (sym e))
+
+module _ (c : Call) where
+  -- ---- numbers 3, 4 and 7
+
+  pub depths : depthBad c ≡ false → ((c .depth ≡ 8) ⊎ (c .depth ≡ 10)) ⊎ (c .depth ≡ 12)
+  depths e = reflects-or (reflects-or (reflects-eqb (c .depth) 8) (reflects-eqb (c .depth) 10)) (reflects-eqb (c .depth) 12) .yes (not-false _ e)
+
+  pub shaped : shapeBad c ≡ false → Shaped c
+  shaped e =
+      let l = not (layoutOk (c .layout)) in
+      let f = frameOk (c .width .0) (c .height .0) in
+      let s = superblockOk (c .superblock) in
+      let p = or-off (l || not f) (not s) e in
+      let q = reflects-frame (c .width .0) (c .height .0) .yes (not-false f (or-off l (not f) (p .0) .1)) in
+      record { wide = q .0; high = q .1; size = reflects-superblock (c .superblock) .yes (not-false s (p .1)) }
+
+  pub roomy : (levels masks : ℕ) → lengthBad c levels masks ≡ false → Roomy c levels masks
+  roomy levels masks e =
+      let l = levelsOk levels (c .pitch) (w4 c) (h4 c) in
+      let m = masksOk masks (w4 c) (h4 c) in
+      let p = or-off (not l) (not m) e in
+      let q = reflects-levels levels (c .pitch) (w4 c) (h4 c) .yes (not-false l (p .0)) in
+      record { wide = q .0; levels-long = q .1; masks-long = reflects-masks masks (w4 c) (h4 c) .yes (not-false m (p .1)) }
+
+  -- ---- the row
+
+  pub sizes : Shaped c → (sb4 c ≡ 16) ⊎ (sb4 c ≡ 32)
+  sizes s = ⊎-elim (λ e. inl (omega arith)) (λ e. inr (omega arith)) (s .size)
+
+  pub in-frame : Shaped c → inside c ≡ true → c .row * sb4 c < h4 c
+  in-frame s e =
+      let z : 0 < sb4 c = ⊎-elim (λ p. omega arith) (λ p. omega arith) (sizes s) in
+      superblock-in (c .row) (h4 c) (sb4 c) z .only (ltb-true _ _ e)
+
+  pub sb-row : Shaped c → inside c ≡ true → SbRow (h4 c) (sb4 c) (c .row)
+  sb-row s e = record { size = sizes s; down = in-frame s e; most = omega (arith, s .high) }
+
+  -- ---- what the scans ask
+
+  pub levels-fit : (levels masks : ℕ) → Shaped c → inside c ≡ true → Roomy c levels masks → LevelsFit levels (c .pitch) (w4 c) (h4 c) (sb4 c) (c .row)
+  levels-fit levels masks s e r =
+      record { row = sb-row s e; some = omega (arith, s .wide); most = omega (arith, s .wide); wide = r .wide; long = r .levels-long }
+
+  pub masks-fit : (levels masks : ℕ) → Shaped c → inside c ≡ true → Roomy c levels masks → MasksFit masks (w4 c) (h4 c) (sb4 c) (c .row)
+  masks-fit levels masks s e r =
+      record { size = sizes s; down = in-frame s e; wide = omega (arith, s .wide); high = omega (arith, s .high); long = r .masks-long }
+
+  pub samples-fit : (n len : ℕ) → Shaped c → inside c ≡ true
+      → planeOk len (strideOf c n) (stored (c .width .0) (ssx c n)) (stored (c .height .0) (ssy c n)) ≡ true
+      → SamplesFit len (strideOf c n) (c .width .0) (c .height .0) (ssx c n) (ssy c n) (sb4 c) (c .row)
+  samples-fit n len s e h =
+      let p = reflects-plane len (strideOf c n) (stored (c .width .0) (ssx c n)) (stored (c .height .0) (ssy c n)) .yes h in
+      record { row = sb-row s e; some = omega (arith, s .wide); most = omega (arith, s .wide); wide = p .0; long = p .1 }
+
+  pub pass-below : passNo (passOf c) < 2
+  pass-below = go (c .rowwise)
+    where
+      go : (b : Bool) → passNo (cond b rows columns) < 2
+      go true = omega arith
+      go false = omega arith
+
+  pub ssx-le : (n : ℕ) → ssx c n ≤ 1
+  ssx-le zero = omega arith
+  ssx-le (suc n) = ss-hor-le (c .layout)
+
+  pub ssy-le : (n : ℕ) → ssy c n ≤ 1
+  ssy-le zero = omega arith
+  ssy-le (suc n) = ss-ver-le (c .layout)
+
+  -- a plane of chroma
+  pub later : (n : ℕ) → ¬ (n ≡ 0) → (ssx c n ≡ ssHor (c .layout)) × (ssy c n ≡ ssVer (c .layout)) × (strideOf c n ≡ c .uvstride)
+  later zero e = absurd (e refl)
+  later (suc n) e = (refl, refl, refl)
+
+  pub stored-some : (n : ℕ) → Shaped c → 0 < stored (c .height .0) (ssy c n)
+  stored-some n s =
+      let h = s .high .0 in each-at 2 (λ t. 0 < stored (c .height .0) t) (omega arith, (omega arith, tt)) (ssy c n) (omega (arith, ssy-le n))
