@@ -12,7 +12,7 @@ use Rattle.units.specs.Frame.{frameOk, superblockOk, stored}
 use Rattle.units.specs.Memory.{levelsOk, planeOk, masksOk}
 use Rattle.units.proofs.Places.{superblock-in, ss-hor-le, ss-ver-le}
 use Rattle.units.proofs.Tests.{reflects-frame, reflects-superblock, reflects-levels, reflects-masks, reflects-plane}
-use Rattle.plane.specs.Line.{Pass, rows, columns}
+use Rattle.plane.specs.Line.{rows, columns}
 use Rattle.edges.specs.Edges.{passNo}
 use Rattle.scans.specs.Fits.{SbRow, LevelsFit, SamplesFit}
 use Rattle.gap.specs.Fits.{MasksFit}

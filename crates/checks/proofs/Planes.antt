@@ -12,7 +12,6 @@ use Rattle.units.specs.Memory.{planeOk}
 use Rattle.plane.specs.Line.{columns, rows}
 use Rattle.edges.specs.Edges.{passNo, unitsOf}
 use Rattle.scans.specs.Scan.{levelsHigh, lumaLevelsHigh, chromaLevelsHigh, samplesHigh}
-use Rattle.scans.specs.Promises.{SampleHigh}
 use Rattle.scans.proofs.Told.{promises}
 use Rattle.gap.specs.Numbers.{sbUnits, gap, outside, Found}
 use Rattle.gap.specs.declared.Both.{Both}

@@ -16,7 +16,7 @@ use mathlib.Core.Bool.{Bool, cond, not, _&&_}
 use mathlib.Core.List.{List}
 use mathlib.Core.Logic.{_⊎_}
 use mathlib.Core.Path.{_≡_}
-use Prim.Native.Nat.{ℕ, zero, suc, _*_, _<_, _≤_}
+use Prim.Native.Nat.{ℕ, zero, suc, _*_, _≤_}
 use lib.Dec.{eqb}
 use Rattle.plane.specs.Line.{Pass, columns, rows}
 use Rattle.units.specs.Units.{unitsOf}

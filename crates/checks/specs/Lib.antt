@@ -4,3 +4,5 @@ pub mod Call
 pub mod Tests
 -- what they refuse, in document 01's words
 pub mod Faults
+-- and that they refuse exactly that
+pub mod Promises

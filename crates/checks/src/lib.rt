@@ -25,6 +25,7 @@ ghost use mathlib.Core.Path.{_≡_};
 ghost use Prim.Native.Nat.{ℕ};
 ghost use lib.ListN.{length};
 ghost use Rattle.checks.specs.Call.{lent, Shaped, Roomy};
+ghost use Rattle.checks.specs.Promises.{Numbers};
 ghost use Rattle.checks.specs.Tests.{given, marked, number};
 
 // One pass of superblock row `row`: by rows or by columns. levelu and levelv are chroma's base levels; stride and uvstride are in samples,
@@ -110,3 +111,8 @@ pub fn number_16(c: Call, luma: &[u16], u: &[u16], v: &[u16], levels: &[u8], mas
     }
     marked(c, masks)
 }
+
+// What the numbers mean.
+pub fn promised()
+    ensures { λ _. ⌜ Numbers ⌝ }
+{}
