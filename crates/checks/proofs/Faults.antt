@@ -84,7 +84,7 @@ module _ (c : Call) where
 
   -- ---- the planes that are filtered
 
-  reflects-on : Reflects (chromaOn c) ((¬ (c .layout ≡ 400)) × (¬ ((c .levelu ≡ 0) × (c .levelv ≡ 0))))
+  pub reflects-on : Reflects (chromaOn c) ((¬ (c .layout ≡ 400)) × (¬ ((c .levelu ≡ 0) × (c .levelv ≡ 0))))
   reflects-on = reflects-and (reflects-chroma (c .layout)) (reflects-not (reflects-and (reflects-eqb (c .levelu) 0) (reflects-eqb (c .levelv) 0)))
 
   reflects-planes : (test : ℕ → Bool) (P : ℕ → Type 0) → ((n : ℕ) → Reflects (test n) (P n)) → Reflects (anyPlane c test) ((n : ℕ) × Filtered c n × P n)
@@ -105,7 +105,7 @@ module _ (c : Call) where
 
   -- ---- numbers 11 and 12
 
-  grid-ssx : (n : ℕ) → gridOf c n .ssx ≤ 1
+  pub grid-ssx : (n : ℕ) → gridOf c n .ssx ≤ 1
   grid-ssx zero = omega arith
   grid-ssx (suc n) = ss-hor-le (c .layout)
 

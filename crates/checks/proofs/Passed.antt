@@ -5,6 +5,7 @@ use mathlib.Core.Path.{_≡_, refl, sym, _∙_}
 use Prim.Native.Nat.{ℕ, zero, suc, _*_, _<_, _≤_}
 use native.Mathlib.Omega.{arith}
 use borrow.Author.Tests.{not-true, not-false, ltb-true}
+use Rattle.loops.specs.Exactly.{Reflects}
 use Rattle.loops.proofs.Reflected.{reflects-eqb, reflects-or}
 use Rattle.loops.proofs.Tables.{each-at}
 use Rattle.units.specs.Layout.{layoutOk, ssHor, ssVer}
@@ -31,6 +32,10 @@ on {r} e h = sym e ∙ not-false r h
 pub or-off : (a b : Bool) → (a || b) ≡ false → (a ≡ false) × (b ≡ false)
 or-off false b e = (refl, e)
 or-off true b e = absurd (false≢true (sym e))
+
+pub unmet : {P : Type 0} (b : Bool) → Reflects b P → ¬ P → b ≡ false
+unmet true r n = absurd (n (r .yes refl))
+unmet false r n = refl
 
 module _ (c : Call) where
   -- ---- numbers 3, 4 and 7

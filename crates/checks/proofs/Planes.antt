@@ -5,7 +5,6 @@ use mathlib.Core.Path.{_≡_, refl, sym, _∙_, ap}
 use Prim.Native.Nat.{ℕ, _+_, _-_, _*_, _^_, _<_}
 use native.Mathlib.Omega.{arith}
 use lib.ListN.{length, getD}
-use Rattle.loops.specs.Exactly.{Reflects}
 use Rattle.units.specs.Units.{chromaUnit, chromaUnits}
 use Rattle.units.specs.Frame.{stored}
 use Rattle.units.specs.Memory.{planeOk}
@@ -18,6 +17,7 @@ use Rattle.gap.specs.declared.Both.{Both}
 use Rattle.checks.specs.declared.Call.{Call}
 use Rattle.checks.specs.Call.{Lent, samples, passOf, w4, h4, sb4, ssx, ssy, gridOf, strideOf, kindOf, chromaOn}
 use Rattle.checks.specs.Tests.{anyPlane, inside, levelsBad, planeBad, planesBad, gapBad, maskBad}
+use Rattle.checks.proofs.Passed.{unmet}
 
 module _ (c : Call) where
   pub luma-only : (test : ℕ → Bool) {r : Bool} → chromaOn c ≡ false → r ≡ test 0 → r ≡ anyPlane c test
@@ -57,10 +57,6 @@ module _ (c : Call) where
     levels-all e o h k = rw e (with-chroma high o (h ∙ luma-high) k)
 
   -- ---- number 9
-
-  unmet : {P : Type 0} (b : Bool) → Reflects b P → ¬ P → b ≡ false
-  unmet true r n = absurd (n (r .yes refl))
-  unmet false r n = refl
 
   module _ (n : ℕ) (s : List ℕ) where
     abbrev short : Bool
