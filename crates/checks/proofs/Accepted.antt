@@ -1,25 +1,28 @@
 -- What a call that is not refused has: no fault of any number, and so the facts that the tests reflect; of its planes, those that are filtered.
 use mathlib.Core.Bool.{true}
-use mathlib.Core.Logic.{_⊎_}
+use mathlib.Core.Logic.{_⊎_, ⊎-elim}
 use mathlib.Core.Path.{_≡_}
-use Prim.Native.Nat.{ℕ, _-_, _*_, _^_, _<_, _≤_}
+use Prim.Native.Nat.{ℕ, zero, suc, _+_, _-_, _*_, _^_, _<_, _≤_}
 use native.Mathlib.Omega.{arith}
-use lib.ListN.{length}
+use lib.ListN.{length, getD}
 use Rattle.units.specs.Units.{chromaUnit}
-use Rattle.units.specs.Frame.{stored}
+use Rattle.units.specs.Layout.{ssHor, ssVer}
+use Rattle.units.specs.Frame.{stored, records}
+use Rattle.units.specs.Memory.{levelAt}
+use Rattle.units.proofs.Places.{ss-hor-le, ss-ver-le, stored-records}
 use Rattle.plane.specs.Line.{columns, rows}
-use Rattle.edges.specs.Edges.{passNo, unitsOf}
+use Rattle.edges.specs.Edges.{passNo, unitsOf, side}
 use Rattle.scans.specs.Promises.{LevelHigh, SampleHigh}
 use Rattle.gap.specs.Numbers.{sbUnits}
 use Rattle.gap.specs.Promises.{Keeps, Looks, Gap, Outside}
 use Rattle.gap.proofs.Told.{promises}
 use Rattle.checks.specs.declared.Call.{Call}
-use Rattle.checks.specs.Call.{Lent, samples, passOf, h4, sb4, ssx, ssy, gridOf, strideOf, kindOf, chromaOn, Filtered, chroma-u, chroma-v, Shaped, Roomy}
+use Rattle.checks.specs.Call.{Lent, samples, passOf, w4, h4, sb4, ssx, ssy, gridOf, strideOf, kindOf, chromaOn, Filtered, chroma-u, chroma-v, Shaped, Roomy}
 use Rattle.checks.specs.Tests.{number}
 use Rattle.checks.specs.Faults.{SampleFault, stride-short, too-short, too-high}
 use Rattle.checks.specs.Promises.{Clear4, Clear7, Clear9}
-use Rattle.checks.proofs.Passed.{unmet, depths, shaped, roomy}
-use Rattle.checks.proofs.Faults.{reflects-depth, reflects-shape, reflects-lengths, reflects-on, grid-ssx}
+use Rattle.checks.proofs.Passed.{unmet, depths, shaped, roomy, proper}
+use Rattle.checks.proofs.Faults.{reflects-depth, reflects-shape, reflects-lengths, reflects-on}
 use Rattle.checks.proofs.Numbers.{exactly-0}
 
 pub filtered-u : (c : Call) → chromaOn c ≡ true → Filtered c 1
@@ -27,6 +30,15 @@ filtered-u c o = let p = reflects-on c .yes o in chroma-u (p .0) (p .1)
 
 pub filtered-v : (c : Call) → chromaOn c ≡ true → Filtered c 2
 filtered-v c o = let p = reflects-on c .yes o in chroma-v (p .0) (p .1)
+
+-- a stored side holds whole records
+stored-wide : (c : Call) (n : ℕ) → stored (c .width .0) (ssx c n) ≡ 4 * (records (w4 c) * side (gridOf c n) columns)
+stored-wide c zero = stored-records (c .width .0) 0 (omega arith)
+stored-wide c (suc n) = stored-records (c .width .0) (ssHor (c .layout)) (ss-hor-le (c .layout))
+
+stored-high : (c : Call) (n : ℕ) → stored (c .height .0) (ssy c n) ≡ 4 * (records (h4 c) * side (gridOf c n) rows)
+stored-high c zero = stored-records (c .height .0) 0 (omega arith)
+stored-high c (suc n) = stored-records (c .height .0) (ssVer (c .layout)) (ss-ver-le (c .layout))
 
 module _ (c : Call) (m : Lent) (e : number c m ≡ 0) where
   clear-9 : Clear9 c m
@@ -49,6 +61,9 @@ module _ (c : Call) (m : Lent) (e : number c m ≡ 0) where
 
   pub accepted-row : c .row * sb4 c < h4 c
   accepted-row = let n = exactly-0 c m .only e .1 .1 .0 in omega arith
+
+  depth-some : 0 < 2 ^ c .depth
+  depth-some = ⊎-elim (⊎-elim (λ d. rw d (omega arith)) (λ d. rw d (omega arith))) (λ d. rw d (omega arith)) accepted-depth
 
   module _ {n : ℕ} (f : Filtered c n) where
     pub accepted-levels : ¬ LevelHigh (m .levels) (c .pitch) (kindOf c n) (unitsOf (gridOf c n) columns) (unitsOf (gridOf c n) rows)
@@ -74,8 +89,31 @@ module _ (c : Call) (m : Lent) (e : number c m ≡ 0) where
 
     pub accepted-keeps : (v : ℕ) → Looks (gridOf c n) (passOf c) (sb4 c) (c .row) v → Keeps (gridOf c n) (m .masks) (passOf c) (sb4 c) (c .row) v
     accepted-keeps v l =
-        promises .kept (gridOf c n) (m .masks) (passOf c) (sb4 c) (c .row) v (grid-ssx c n)
-        (unmet _ (promises .eleven (gridOf c n) (m .masks) (passOf c) (sb4 c) (c .row) (grid-ssx c n)) accepted-gap) l
+        promises .kept (gridOf c n) (m .masks) (passOf c) (sb4 c) (c .row) v (proper c n .ssx-le)
+        (unmet _ (promises .eleven (gridOf c n) (m .masks) (passOf c) (sb4 c) (c .row) (proper c n .ssx-le)) accepted-gap) l
 
     pub accepted-masks : ¬ Outside (gridOf c n) (m .masks) (passOf c) (sb4 c) (c .row)
     accepted-masks h = exactly-0 c m .only e .0 (record { plane = n; filtered = f; bit = h })
+
+    -- ---- the same, at each place
+
+    pub accepted-level : (x y : ℕ) → x < unitsOf (gridOf c n) columns → y < unitsOf (gridOf c n) rows → c .row * sbUnits (gridOf c n) (sb4 c) ≤ y + passNo (passOf c)
+        → y < (c .row + 1) * sbUnits (gridOf c n) (sb4 c) → getD (m .levels) (levelAt (c .pitch) x y (kindOf c n)) 0 ≤ 63
+    accepted-level x y r d a b =
+        let g : ¬ (63 < getD (m .levels) (levelAt (c .pitch) x y (kindOf c n)) 0) =
+        λ h. accepted-levels (record { x = x; y = y; right = r; down = d; from = a; to = b; too-high = h }) in
+        omega arith
+
+    pub accepted-sample : (x y : ℕ) → x < stored (c .width .0) (ssx c n) → 4 * (c .row * chromaUnit (ssy c n) (sb4 c)) ≤ y + 8 * passNo (passOf c)
+        → y < 4 * ((c .row + 1) * chromaUnit (ssy c n) (sb4 c)) → getD (samples m n) (y * strideOf c n + x) 0 < 2 ^ c .depth
+    accepted-sample x y r a b =
+        let g : ¬ (2 ^ c .depth - 1 < getD (samples m n) (y * strideOf c n + x) 0) =
+        λ h. accepted-samples (record { x = x; y = y; right = r; from = a; to = b; too-high = h }) in
+        omega (arith, depth-some)
+
+    -- in records
+    pub accepted-wide : 4 * (records (w4 c) * side (gridOf c n) columns) ≤ strideOf c n
+    accepted-wide = omega (arith, accepted-stride, stored-wide c n)
+
+    pub accepted-high : strideOf c n * (4 * (records (h4 c) * side (gridOf c n) rows)) ≤ length (samples m n)
+    accepted-high = rw (← stored-high c n) accepted-length

@@ -3,7 +3,7 @@ use mathlib.Core.Bool.{Bool, true, false, not}
 use mathlib.Core.List.{List}
 use mathlib.Core.Logic.{_⊎_, inl, inr, ⊎-elim, by-cases}
 use mathlib.Core.Path.{_≡_, refl}
-use Prim.Native.Nat.{ℕ, zero, suc, _-_, _*_, _^_, _<_, _≤_}
+use Prim.Native.Nat.{ℕ, _-_, _*_, _^_, _<_, _≤_}
 use native.Mathlib.Decide.{decLt}
 use native.Mathlib.Omega.{arith}
 use lib.ListN.{length}
@@ -12,7 +12,7 @@ use Rattle.loops.proofs.Reflected.{reflects-ltb, reflects-eqb, reflects-as, ref
 use Rattle.units.specs.Units.{chromaUnit}
 use Rattle.units.specs.Layout.{Layout}
 use Rattle.units.specs.Frame.{frameRecords, stored, superblocks}
-use Rattle.units.proofs.Places.{superblock-in, ss-hor-le}
+use Rattle.units.proofs.Places.{superblock-in}
 use Rattle.units.proofs.Tests.{reflects-layout, reflects-chroma, reflects-frame, reflects-superblock, reflects-levels, reflects-masks, reflects-plane}
 use Rattle.plane.specs.Line.{columns, rows}
 use Rattle.edges.specs.Edges.{passNo, unitsOf}
@@ -28,6 +28,7 @@ use Rattle.checks.specs.Tests.{anyPlane, levelBad, depthBad, shapeBad, l
 use Rattle.checks.specs.Faults.{LevelFault, u-above, v-above, u-at-400, v-at-400, DepthFault, ShapeFault, layout-other, size-outside, superblock-other}
 use Rattle.checks.specs.Faults.{LengthFault, stride-below, levels-short, masks-short, InFrame, LevelByteFault}
 use Rattle.checks.specs.Faults.{SampleFault, stride-short, too-short, too-high, PlaneFault, RowFault, GapFault, MaskFault}
+use Rattle.checks.proofs.Passed.{proper}
 
 settled : {P : Type 0} (b : Bool) → Reflects b P → ¬ (¬ P) → P
 settled true r n = r .yes refl
@@ -105,10 +106,6 @@ module _ (c : Call) where
 
   -- ---- numbers 11 and 12
 
-  pub grid-ssx : (n : ℕ) → gridOf c n .ssx ≤ 1
-  grid-ssx zero = omega arith
-  grid-ssx (suc n) = ss-hor-le (c .layout)
-
   pub reflects-gap : (m : Lent) → Reflects (gapBad c (m .masks)) (GapFault c m)
   reflects-gap m =
       reflects-as
@@ -117,7 +114,7 @@ module _ (c : Call) where
         always = λ f. (f .plane, f .filtered, f .broken);
       })
       (reflects-planes (λ n. gap (gridOf c n) (m .masks) (passOf c) (sb4 c) (c .row)) (λ n. Gap (gridOf c n) (m .masks) (passOf c) (sb4 c) (c .row))
-      (λ n. gaps.promises .eleven (gridOf c n) (m .masks) (passOf c) (sb4 c) (c .row) (grid-ssx n)))
+      (λ n. gaps.promises .eleven (gridOf c n) (m .masks) (passOf c) (sb4 c) (c .row) (proper c n .ssx-le)))
 
   pub reflects-mask : (m : Lent) → Reflects (maskBad c (m .masks)) (MaskFault c m)
   reflects-mask m =

@@ -14,11 +14,11 @@ use Rattle.units.specs.Memory.{levelsOk, planeOk, masksOk}
 use Rattle.units.proofs.Places.{superblock-in, ss-hor-le, ss-ver-le}
 use Rattle.units.proofs.Tests.{reflects-frame, reflects-superblock, reflects-levels, reflects-masks, reflects-plane}
 use Rattle.plane.specs.Line.{rows, columns}
-use Rattle.edges.specs.Edges.{passNo}
+use Rattle.edges.specs.Edges.{Proper, passNo}
 use Rattle.scans.specs.Fits.{SbRow, LevelsFit, SamplesFit}
 use Rattle.gap.specs.Fits.{MasksFit}
 use Rattle.checks.specs.declared.Call.{Call}
-use Rattle.checks.specs.Call.{passOf, w4, h4, sb4, ssx, ssy, strideOf, Shaped, Roomy}
+use Rattle.checks.specs.Call.{passOf, w4, h4, sb4, ssx, ssy, gridOf, strideOf, Shaped, Roomy}
 use Rattle.checks.specs.Tests.{depthBad, shapeBad, lengthBad, inside}
 
 -- ---- the code's tests, by the contract of what they call
@@ -113,3 +113,13 @@ module _ (c : Call) where
   pub stored-some : (n : ℕ) → Shaped c → 0 < stored (c .height .0) (ssy c n)
   stored-some n s =
       let h = s .high .0 in each-at 2 (λ t. 0 < stored (c .height .0) t) (omega arith, (omega arith, tt)) (ssy c n) (omega (arith, ssy-le n))
+
+  pub proper : (n : ℕ) → Proper (gridOf c n)
+  proper zero = record { ssx-le = omega arith; ssy-le = omega arith; luma-x = λ _. refl; luma-y = λ _. refl }
+  proper (suc n) =
+      record {
+        ssx-le = ss-hor-le (c .layout);
+        ssy-le = ss-ver-le (c .layout);
+        luma-x = λ e. absurd (false≢true e);
+        luma-y = λ e. absurd (false≢true e);
+      }
