@@ -1,5 +1,5 @@
 // The numbers of the calls that filter.
-mod tests;
+pub mod tests;
 
 use tests::depth_bad;
 use tests::found;

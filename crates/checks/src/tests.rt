@@ -35,7 +35,7 @@ fn pass_of(c: Call) -> usize
     if c.rowwise { 1 } else { 0 }
 }
 
-fn chroma_on(c: Call) -> bool
+pub fn chroma_on(c: Call) -> bool
     ensures { λ r. ⌜ r ≡ chromaOn c ⌝ }
 {
     has_chroma(c.layout) & !((c.levelu == 0) & (c.levelv == 0))
@@ -112,19 +112,19 @@ pub fn levels_bad(c: Call, levels: &[u8]) -> bool
     luma | chroma_high(c, levels)
 }
 
-fn hor(c: Call, n: usize) -> usize
+pub fn hor(c: Call, n: usize) -> usize
     ensures { λ r. ⌜ r ≡ ssx c n ⌝ }
 {
     if n == 0 { 0 } else { ss_hor(c.layout) }
 }
 
-fn ver(c: Call, n: usize) -> usize
+pub fn ver(c: Call, n: usize) -> usize
     ensures { λ r. ⌜ r ≡ ssy c n ⌝ }
 {
     if n == 0 { 0 } else { ss_ver(c.layout) }
 }
 
-fn stride_of(c: Call, n: usize) -> usize
+pub fn stride_of(c: Call, n: usize) -> usize
     ensures { λ r. ⌜ r ≡ strideOf c n ⌝ }
 {
     if n == 0 { c.stride } else { c.uvstride }

@@ -207,7 +207,7 @@ module _ (P : Plane) (k : Kept P) (f : Fair (P .widths)) where
     -- what a piece reads is stored, if its line is
     stays : (d : Pass) (p : Piece) (j i : ℕ) → Reads P d p j → lineOf d (P .stride) j ≡ lineOf d (P .stride) i → Stored i → Stored j
     stays columns p j i r c h =
-        let x = reads-piece P k f columns p j r in
+        let x = reads-piece P columns p j r in
         let e = edge-of P k f columns p (x .0) (x .1) .1 in
         omega (
           arith,

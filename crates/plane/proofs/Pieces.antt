@@ -74,6 +74,32 @@ module _ (P : Plane) where
   unfolding act piece pieceAt lineAt changed put
   idle d p e s = rw e refl
 
+  -- ---- what is done at a unit is local, if its samples are there
+
+  local-none : (d : Pass) (p : Piece) → class P d p ≡ none → Local (lineOf d (P .stride)) (Writes d p) (Reads d p) (act P d p)
+  local-none d p e =
+      record {
+        decide = dec-box d (P .stride) (ruleAt d p .writes) p;
+        within = λ i w. absurd (nowhere i w);
+        keeps = λ l. ap length (idle d p e l);
+        outside = λ l i n. ap (λ x. getD x i 0) (idle d p e l);
+        inside = λ l m _ i w _. absurd (nowhere i w);
+      }
+    where
+      nowhere : (i : ℕ) → Writes d p i → ⊥
+      nowhere i w = omega (arith, w .left, w .right, ap (λ o. ruleOf P d p o .writes) e)
+
+  pub local-of : (d : Pass) (p : Piece) → ((c : ℕ) → class P d p ≡ some c → Placed d (P .stride) (ruleAt d p) p)
+      → Local (lineOf d (P .stride)) (Writes d p) (Reads d p) (act P d p)
+  unfolding act
+  local-of d p h =
+      ⊎-elim (λ x. local-piece d (P .stride) (ruleAt d p) p (h (x .0) (x .1))) (λ e. local-none d p e) (kind (class P d p))
+
+  -- only an edge piece reads
+  pub reads-piece : (d : Pass) (p : Piece) (i : ℕ) → Reads d p i → (c : ℕ) × (class P d p ≡ some c)
+  reads-piece d p i w =
+      ⊎-elim (λ x. x) (λ e. absurd (omega (arith, w .left, w .right, ap (λ o. ruleOf P d p o .reads) e))) (kind (class P d p))
+
 dec-boundary : (P : Plane) (d : Pass) (u : ℕ) → Dec (Boundary P d u)
 dec-boundary P columns u = no (λ x. x)
 dec-boundary P rows u = ℕ-discrete _ _
@@ -103,31 +129,12 @@ module _ (P : Plane) (k : Kept P) (f : Fair (P .widths)) where
         gives = k .gives d c p;
       })
 
-  local-none : (d : Pass) (p : Piece) → class P d p ≡ none → Local (lineOf d (P .stride)) (Writes P d p) (Reads P d p) (act P d p)
-  local-none d p e =
-      record {
-        decide = dec-box d (P .stride) (ruleAt P d p .writes) p;
-        within = λ i w. absurd (nowhere i w);
-        keeps = λ l. ap length (idle P d p e l);
-        outside = λ l i n. ap (λ x. getD x i 0) (idle P d p e l);
-        inside = λ l m _ i w _. absurd (nowhere i w);
-      }
-    where
-      nowhere : (i : ℕ) → Writes P d p i → ⊥
-      nowhere i w = omega (arith, w .left, w .right, ap (λ o. ruleOf P d p o .writes) e)
-
   pub local : (d : Pass) (p : Piece) → Local (lineOf d (P .stride)) (Writes P d p) (Reads P d p) (act P d p)
-  unfolding act
-  local d p =
-      ⊎-elim (λ x. local-piece d (P .stride) (ruleAt P d p) p (placed d p (x .0) (x .1))) (λ e. local-none d p e) (kind (class P d p))
+  local d p = local-of P d p (placed d p)
 
-  -- only an edge piece reads and writes
-  pub reads-piece : (d : Pass) (p : Piece) (i : ℕ) → Reads P d p i → (c : ℕ) × (class P d p ≡ some c)
-  reads-piece d p i w =
-      ⊎-elim (λ x. x) (λ e. absurd (omega (arith, w .left, w .right, ap (λ o. ruleOf P d p o .reads) e))) (kind (class P d p))
-
+  -- only an edge piece writes
   pub writes-piece : (d : Pass) (p : Piece) (i : ℕ) → Writes P d p i → IsPiece P d p
-  writes-piece d p i w = let x = reads-piece d p i (local d p .within i w) in record { cls = x .0; is = x .1 }
+  writes-piece d p i w = let x = reads-piece P d p i (local d p .within i w) in record { cls = x .0; is = x .1 }
 
   -- ---- two units of one pass read apart
 
@@ -144,8 +151,8 @@ module _ (P : Plane) (k : Kept P) (f : Fair (P .widths)) where
 
   pub apart : (d : Pass) (p q : Piece) → p ≢ q → Apart (Reads P d p) (Reads P d q)
   apart d p q n i a b =
-      let x = reads-piece d p i a in
-      let y = reads-piece d q i b in
+      let x = reads-piece P d p i a in
+      let y = reads-piece P d q i b in
       by-cases (ℕ-discrete (p .1) (q .1))
       (λ e. by-cases (ℕ-discrete (p .0) (q .0)) (λ e′. n (λ j. (e′ j, e j)))
       (λ m. by-cases (decLe (p .0) (q .0))
@@ -169,4 +176,4 @@ module _ (P : Plane) (k : Kept P) (f : Fair (P .widths)) where
   past j i h p q hp hq =
       commute (local columns p) (local rows q)
       (λ x a b.
-      omega (arith, a .from, b .right, hp .from, mul-le-mul-right (P .sb) h, high-enough q (suc j) (reads-piece rows q x b) (omega (arith, hq .to))))
+      omega (arith, a .from, b .right, hp .from, mul-le-mul-right (P .sb) h, high-enough q (suc j) (reads-piece P rows q x b) (omega (arith, hq .to))))

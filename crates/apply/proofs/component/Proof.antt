@@ -1,0 +1,48 @@
+-- `component` meets its contract, field by field.
+use borrow.Author.Needs.{needs}
+use Rattle.apply.proofs.component.Statement.{statement}
+use Rattle.apply.proofs.component.Tie as tie
+
+hor-requires : tie.Need-hor-requires
+hor-requires c κs = search needs
+
+ver-requires : tie.Need-ver-requires
+ver-requires c κs = search needs
+
+luma-units-requires : tie.Need-luma-units-requires
+luma-units-requires c κs = c .before .before .pre .wide .1
+
+luma-units-requires-2 : tie.Need-luma-units-requires-2
+luma-units-requires-2 c κs = c .before .before .before .pre .high .1
+
+superblock-units-requires : tie.Need-superblock-units-requires
+superblock-units-requires c κs = search needs
+
+stride-of-requires : tie.Need-stride-of-requires
+stride-of-requires c κs = search needs
+
+returns : tie.Need-returns
+returns c =
+    let a = c .before .before .before .before .before .before .args in
+    (λ q. record {
+      plane = a .n;
+      ssx = c .before .before .before .before .before .hor .ensures q;
+      ssy = c .before .before .before .before .ver .ensures q;
+      w4 = record { 0 = c .before .before .before .luma-units .ensures q };
+      h4 = record { 0 = c .before .before .luma-units2 .ensures q };
+      sb4 = record { 0 = c .before .superblock-units .ensures q };
+      stride = c .stride-of .ensures q;
+      pitch = a .c .pitch;
+    })
+
+pub component-spec : {M : Type 1} → statement M
+component-spec =
+    tie.close
+    (tie.spec
+    hor-requires
+    ver-requires
+    luma-units-requires
+    luma-units-requires-2
+    superblock-units-requires
+    stride-of-requires
+    returns)

@@ -1,0 +1,119 @@
+-- The calls that filter one pass of a superblock row: the planes that they define, and their contract.
+--   componentOf c n           plane n of the frame of a call
+--   shown on P                the plane, with no edges unless it is on
+--   Limits                    the limit table's e and i
+--   planeAt c e m n           plane n, from what is lent
+--   planesOf c e m            the three planes, chroma without edges where it is not filtered
+--   threeOf m                 their samples
+--   passCall c                the pass of the call, over the three planes
+--   FilterAnswer              number and samples after a call
+--   callOf                    the call of these arguments
+--   swept, sweptIf            what is done to a plane, and to one of chroma
+--   Ready, Ready16            what that asks, and of samples of 16 bits
+use mathlib.Core.Bool.{Bool, cond}
+use mathlib.Core.List.{List}
+use mathlib.Core.Option.{none}
+use mathlib.Core.Path.{_≡_}
+use Prim.Native.Nat.{ℕ, _^_, _≤_}
+use lib.Dec.{eqb}
+use lib.ListN.{length}
+use Rattle.plane.specs.Plane.{Plane}
+use Rattle.plane.specs.Three.{Three, colsCall, rowsCall}
+use Rattle.filter.specs.declared.Component.{Component}
+use Rattle.filter.specs.Filter.{Tables, passOf, planeOf, sweepOf}
+use Rattle.filter.specs.Ready.{Stored, Fit, Under}
+use Rattle.checks.specs.declared.Call.{Call}
+use Rattle.checks.specs.Call.{Lent, w4, h4, sb4, ssx, ssy, strideOf, chromaOn, Shaped}
+use Rattle.checks.specs.Tests.{number}
+
+abbrev pub componentOf : Call → ℕ → Component
+componentOf c n =
+    record {
+      plane = n;
+      ssx = ssx c n;
+      ssy = ssy c n;
+      w4 = record { 0 = w4 c };
+      h4 = record { 0 = h4 c };
+      sb4 = record { 0 = sb4 c };
+      stride = strideOf c n;
+      pitch = c .pitch;
+    }
+
+abbrev pub shown : Bool → Plane → Plane
+shown on P =
+    record {
+      stride = P .stride;
+      group = P .group;
+      groups = P .groups;
+      sb = P .sb;
+      sbs = P .sbs;
+      high = P .high;
+      widths = P .widths;
+      edge = λ d p. cond on (P .edge d p) none;
+      rule = P .rule;
+    }
+
+pub record Limits : Type 0 where
+  pub e : List ℕ
+  pub i : List ℕ
+
+abbrev pub tablesOf : Call → Limits → Lent → Tables
+tablesOf c l m = record { depth = c .depth; levels = m .levels; masks = m .masks; e = l .e; i = l .i }
+
+abbrev pub planeAt : Call → Limits → Lent → ℕ → Plane
+planeAt c l m n = planeOf (componentOf c n) (tablesOf c l m)
+
+abbrev pub planesOf : Call → Limits → Lent → Three Plane
+planesOf c l m =
+    record { luma = planeAt c l m 0; u = shown (chromaOn c) (planeAt c l m 1); v = shown (chromaOn c) (planeAt c l m 2) }
+
+abbrev pub threeOf : Lent → Three (List ℕ)
+threeOf m = record { luma = m .luma; u = m .u; v = m .v }
+
+abbrev pub passCall : Call → Three Plane → ℕ → Three (List ℕ) → Three (List ℕ)
+passCall c = cond (c .rowwise) rowsCall colsCall
+
+abbrev pub limits : List ℕ → List ℕ → Limits
+limits e i = record { e = e; i = i }
+
+abbrev pub three : List ℕ → List ℕ → List ℕ → Three (List ℕ)
+three luma u v = record { luma = luma; u = u; v = v }
+
+pub record FilterAnswer (c : Call) (l : Limits) (m : Lent) (r : ℕ) (after : Three (List ℕ)) : Type 0 where
+  pub code : r ≡ number c m
+  pub planes : after ≡ cond (eqb r 0) (passCall c (planesOf c l m) (c .row) (threeOf m)) (threeOf m)
+
+abbrev pub callOf : Bool → ℕ → ℕ → ℕ → ℕ → ℕ → ℕ → ℕ → ℕ → ℕ → ℕ → ℕ → Call
+callOf rowwise depth luma-stride chroma-stride stride width height layout superblock level-u level-v row =
+    record {
+      width = record { 0 = width };
+      height = record { 0 = height };
+      layout = layout;
+      superblock = superblock;
+      depth = depth;
+      levelu = level-u;
+      levelv = level-v;
+      row = row;
+      rowwise = rowwise;
+      stride = luma-stride;
+      uvstride = chroma-stride;
+      pitch = stride;
+    }
+
+-- ---- one plane
+
+unfoldable pub swept : Call → Tables → ℕ → List ℕ → List ℕ
+swept c t n = sweepOf (planeOf (componentOf c n) t) (passOf (c .rowwise)) (c .row)
+
+abbrev pub sweptIf : Call → Tables → ℕ → List ℕ → List ℕ
+sweptIf c t n s = cond (chromaOn c) (swept c t n s) s
+
+pub record Ready (c : Call) (t : Tables) (n : ℕ) (s : List ℕ) : Type 0 where
+  pub shaped : Shaped c
+  pub stored : Stored (componentOf c n) t (length s)
+  pub fit : Fit (componentOf c n) t (passOf (c .rowwise)) (c .row)
+
+pub record Ready16 (c : Call) (t : Tables) (n : ℕ) (s : List ℕ) : Type 0 where
+  pub ready : Ready c t n s
+  pub deep : (8 ≤ t .depth) × (t .depth ≤ 12)
+  pub under : Under (2 ^ t .depth) (componentOf c n) (passOf (c .rowwise)) (c .row) s

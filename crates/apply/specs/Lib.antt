@@ -1,0 +1,2 @@
+-- the planes that a call filters, and its contract
+pub mod Apply

@@ -1,0 +1,326 @@
+// Columns and rows of one superblock row: `rav1d_loopfilter_sbrow_cols`, but for the tile correction, and `rav1d_loopfilter_sbrow_rows`.
+use checks::Call;
+use checks::number_8;
+use checks::number_16;
+use checks::tests::chroma_on;
+use checks::tests::hor;
+use checks::tests::stride_of;
+use checks::tests::ver;
+use filter::Component;
+use units::Sample;
+use units::frame::superblock_units;
+use units::luma_units;
+ghost use mathlib.Core.Path.{_≡_};
+ghost use mathlib.Core.Bool.{true, false};
+ghost use Rattle.filter.specs.Filter.{tables};
+ghost use Rattle.checks.specs.Call.{lent, chromaOn, Shaped};
+ghost use Rattle.apply.specs.Apply.{componentOf, limits, three, callOf, Ready, Ready16, swept, sweptIf, FilterAnswer};
+
+fn component(c: Call, n: usize) -> Component
+    requires { ⌜ Shaped c ⌝ }
+    ensures { λ r. ⌜ r ≡ componentOf c n ⌝ }
+{
+    Component {
+        plane: n,
+        ssx: hor(c, n),
+        ssy: ver(c, n),
+        w4: luma_units(c.width),
+        h4: luma_units(c.height),
+        sb4: superblock_units(c.superblock),
+        stride: stride_of(c, n),
+        pitch: c.pitch,
+    }
+}
+
+fn plane_8(
+    s: &mut [u8],
+    c: Call,
+    n: usize,
+    levels: &[u8],
+    masks: &[u16],
+    e: &[u8; 64],
+    i: &[u8; 64],
+)
+    requires { ⌜ (c .depth ≡ 8) × Ready c (tables (c .depth) (now levels) (now masks) (now e) (now i)) n (now s) ⌝ }
+    ensures { λ _. ⌜ now (s .exit) ≡ swept c (tables (c .depth) (now (levels .entry)) (now (masks .entry)) (now (e .entry)) (now (i .entry))) n (now (s .entry)) ⌝ }
+{
+    filter::plane_8(s, component(c, n), c.rowwise, c.row, levels, masks, e, i);
+}
+
+fn chroma_8(
+    u: &mut [u8],
+    v: &mut [u8],
+    c: Call,
+    levels: &[u8],
+    masks: &[u16],
+    e: &[u8; 64],
+    i: &[u8; 64],
+)
+    requires { ⌜ (c .depth ≡ 8) × (chromaOn c ≡ true → Ready c (tables (c .depth) (now levels) (now masks) (now e) (now i)) 1 (now u) × Ready c (tables (c .depth) (now levels) (now masks) (now e) (now i)) 2 (now v)) ⌝ }
+    ensures u { λ _. ⌜ now (u .exit) ≡ sweptIf c (tables (c .depth) (now (levels .entry)) (now (masks .entry)) (now (e .entry)) (now (i .entry))) 1 (now (u .entry)) ⌝ }
+    ensures v { λ _. ⌜ now (v .exit) ≡ sweptIf c (tables (c .depth) (now (levels .entry)) (now (masks .entry)) (now (e .entry)) (now (i .entry))) 2 (now (v .entry)) ⌝ }
+{
+    if !chroma_on(c) {
+        return;
+    }
+    plane_8(u, c, 1, levels, masks, e, i);
+    plane_8(v, c, 2, levels, masks, e, i);
+}
+
+fn filter_8(
+    luma: &mut [u8],
+    u: &mut [u8],
+    v: &mut [u8],
+    c: Call,
+    levels: &[u8],
+    masks: &[u16],
+    e: &[u8; 64],
+    i: &[u8; 64],
+) -> u32
+    requires { ⌜ c .depth ≡ 8 ⌝ }
+    ensures { λ r. ⌜ FilterAnswer c (limits (now (e .entry)) (now (i .entry)))
+        (lent (now (luma .entry)) (now (u .entry)) (now (v .entry)) (now (levels .entry)) (now (masks .entry))) r
+        (three (now (luma .exit)) (now (u .exit)) (now (v .exit))) ⌝ }
+{
+    let n = number_8(c, luma, u, v, levels, masks);
+    if n != 0 {
+        return n;
+    }
+    plane_8(luma, c, 0, levels, masks, e, i);
+    chroma_8(u, v, c, levels, masks, e, i);
+    0
+}
+
+pub fn columns_8(
+    luma: &mut [u8],
+    luma_stride: usize,
+    u: &mut [u8],
+    v: &mut [u8],
+    chroma_stride: usize,
+    levels: &[u8],
+    stride: usize,
+    masks: &[u16],
+    e: &[u8; 64],
+    i: &[u8; 64],
+    width: u32,
+    height: u32,
+    layout: u32,
+    superblock: u32,
+    level_u: u32,
+    level_v: u32,
+    row: u32,
+) -> u32
+    ensures { λ r. ⌜ FilterAnswer (callOf false 8 «luma_stride» «chroma_stride» stride width height layout superblock «level_u» «level_v» row)
+        (limits (now (e .entry)) (now (i .entry)))
+        (lent (now (luma .entry)) (now (u .entry)) (now (v .entry)) (now (levels .entry)) (now (masks .entry))) r
+        (three (now (luma .exit)) (now (u .exit)) (now (v .exit))) ⌝ }
+{
+    let c = Call {
+        width: Sample(width as usize),
+        height: Sample(height as usize),
+        layout: layout as usize,
+        superblock: superblock as usize,
+        depth: 8,
+        levelu: level_u as usize,
+        levelv: level_v as usize,
+        row: row as usize,
+        rowwise: false,
+        stride: luma_stride,
+        uvstride: chroma_stride,
+        pitch: stride,
+    };
+    filter_8(luma, u, v, c, levels, masks, e, i)
+}
+
+pub fn rows_8(
+    luma: &mut [u8],
+    luma_stride: usize,
+    u: &mut [u8],
+    v: &mut [u8],
+    chroma_stride: usize,
+    levels: &[u8],
+    stride: usize,
+    masks: &[u16],
+    e: &[u8; 64],
+    i: &[u8; 64],
+    width: u32,
+    height: u32,
+    layout: u32,
+    superblock: u32,
+    level_u: u32,
+    level_v: u32,
+    row: u32,
+) -> u32
+    ensures { λ r. ⌜ FilterAnswer (callOf true 8 «luma_stride» «chroma_stride» stride width height layout superblock «level_u» «level_v» row)
+        (limits (now (e .entry)) (now (i .entry)))
+        (lent (now (luma .entry)) (now (u .entry)) (now (v .entry)) (now (levels .entry)) (now (masks .entry))) r
+        (three (now (luma .exit)) (now (u .exit)) (now (v .exit))) ⌝ }
+{
+    let c = Call {
+        width: Sample(width as usize),
+        height: Sample(height as usize),
+        layout: layout as usize,
+        superblock: superblock as usize,
+        depth: 8,
+        levelu: level_u as usize,
+        levelv: level_v as usize,
+        row: row as usize,
+        rowwise: true,
+        stride: luma_stride,
+        uvstride: chroma_stride,
+        pitch: stride,
+    };
+    filter_8(luma, u, v, c, levels, masks, e, i)
+}
+
+fn plane_16(
+    s: &mut [u16],
+    c: Call,
+    n: usize,
+    levels: &[u8],
+    masks: &[u16],
+    e: &[u8; 64],
+    i: &[u8; 64],
+)
+    requires { ⌜ Ready16 c (tables (c .depth) (now levels) (now masks) (now e) (now i)) n (now s) ⌝ }
+    ensures { λ _. ⌜ now (s .exit) ≡ swept c (tables (c .depth) (now (levels .entry)) (now (masks .entry)) (now (e .entry)) (now (i .entry))) n (now (s .entry)) ⌝ }
+{
+    filter::plane_16(
+        s,
+        component(c, n),
+        c.rowwise,
+        c.row,
+        levels,
+        masks,
+        e,
+        i,
+        c.depth,
+    );
+}
+
+fn chroma_16(
+    u: &mut [u16],
+    v: &mut [u16],
+    c: Call,
+    levels: &[u8],
+    masks: &[u16],
+    e: &[u8; 64],
+    i: &[u8; 64],
+)
+    requires { ⌜ (chromaOn c ≡ true → Ready16 c (tables (c .depth) (now levels) (now masks) (now e) (now i)) 1 (now u) × Ready16 c (tables (c .depth) (now levels) (now masks) (now e) (now i)) 2 (now v)) ⌝ }
+    ensures u { λ _. ⌜ now (u .exit) ≡ sweptIf c (tables (c .depth) (now (levels .entry)) (now (masks .entry)) (now (e .entry)) (now (i .entry))) 1 (now (u .entry)) ⌝ }
+    ensures v { λ _. ⌜ now (v .exit) ≡ sweptIf c (tables (c .depth) (now (levels .entry)) (now (masks .entry)) (now (e .entry)) (now (i .entry))) 2 (now (v .entry)) ⌝ }
+{
+    if !chroma_on(c) {
+        return;
+    }
+    plane_16(u, c, 1, levels, masks, e, i);
+    plane_16(v, c, 2, levels, masks, e, i);
+}
+
+fn filter_16(
+    luma: &mut [u16],
+    u: &mut [u16],
+    v: &mut [u16],
+    c: Call,
+    levels: &[u8],
+    masks: &[u16],
+    e: &[u8; 64],
+    i: &[u8; 64],
+) -> u32
+    ensures { λ r. ⌜ FilterAnswer c (limits (now (e .entry)) (now (i .entry)))
+        (lent (now (luma .entry)) (now (u .entry)) (now (v .entry)) (now (levels .entry)) (now (masks .entry))) r
+        (three (now (luma .exit)) (now (u .exit)) (now (v .exit))) ⌝ }
+{
+    let n = number_16(c, luma, u, v, levels, masks);
+    if n != 0 {
+        return n;
+    }
+    plane_16(luma, c, 0, levels, masks, e, i);
+    chroma_16(u, v, c, levels, masks, e, i);
+    0
+}
+
+pub fn columns_16(
+    luma: &mut [u16],
+    luma_stride: usize,
+    u: &mut [u16],
+    v: &mut [u16],
+    chroma_stride: usize,
+    levels: &[u8],
+    stride: usize,
+    masks: &[u16],
+    e: &[u8; 64],
+    i: &[u8; 64],
+    depth: u32,
+    width: u32,
+    height: u32,
+    layout: u32,
+    superblock: u32,
+    level_u: u32,
+    level_v: u32,
+    row: u32,
+) -> u32
+    ensures { λ r. ⌜ FilterAnswer (callOf false depth «luma_stride» «chroma_stride» stride width height layout superblock «level_u» «level_v» row)
+        (limits (now (e .entry)) (now (i .entry)))
+        (lent (now (luma .entry)) (now (u .entry)) (now (v .entry)) (now (levels .entry)) (now (masks .entry))) r
+        (three (now (luma .exit)) (now (u .exit)) (now (v .exit))) ⌝ }
+{
+    let c = Call {
+        width: Sample(width as usize),
+        height: Sample(height as usize),
+        layout: layout as usize,
+        superblock: superblock as usize,
+        depth,
+        levelu: level_u as usize,
+        levelv: level_v as usize,
+        row: row as usize,
+        rowwise: false,
+        stride: luma_stride,
+        uvstride: chroma_stride,
+        pitch: stride,
+    };
+    filter_16(luma, u, v, c, levels, masks, e, i)
+}
+
+pub fn rows_16(
+    luma: &mut [u16],
+    luma_stride: usize,
+    u: &mut [u16],
+    v: &mut [u16],
+    chroma_stride: usize,
+    levels: &[u8],
+    stride: usize,
+    masks: &[u16],
+    e: &[u8; 64],
+    i: &[u8; 64],
+    depth: u32,
+    width: u32,
+    height: u32,
+    layout: u32,
+    superblock: u32,
+    level_u: u32,
+    level_v: u32,
+    row: u32,
+) -> u32
+    ensures { λ r. ⌜ FilterAnswer (callOf true depth «luma_stride» «chroma_stride» stride width height layout superblock «level_u» «level_v» row)
+        (limits (now (e .entry)) (now (i .entry)))
+        (lent (now (luma .entry)) (now (u .entry)) (now (v .entry)) (now (levels .entry)) (now (masks .entry))) r
+        (three (now (luma .exit)) (now (u .exit)) (now (v .exit))) ⌝ }
+{
+    let c = Call {
+        width: Sample(width as usize),
+        height: Sample(height as usize),
+        layout: layout as usize,
+        superblock: superblock as usize,
+        depth,
+        levelu: level_u as usize,
+        levelv: level_v as usize,
+        row: row as usize,
+        rowwise: true,
+        stride: luma_stride,
+        uvstride: chroma_stride,
+        pitch: stride,
+    };
+    filter_16(luma, u, v, c, levels, masks, e, i)
+}

@@ -1,0 +1,135 @@
+-- An accepted call reads and writes only samples that it has looked at: by the gap rule an edge piece of its row stays within them.
+use mathlib.Core.Path.{_≡_, ap, subst, subst⁻¹}
+use mathlib.Core.List.{List}
+use mathlib.Core.Bool.{Bool, true, false, cond}
+use mathlib.Core.Logic.{by-cases}
+use mathlib.Core.Option.{some}
+use Prim.Native.Nat.{ℕ, suc, _+_, _-_, _*_, _/_, _^_, _≤_, _<_}
+use native.Mathlib.Decide.{ℕ-discrete}
+use native.Mathlib.Nat.{suc-mul}
+use native.Mathlib.Omega.{arith}
+use lib.Dec.{eqb}
+use lib.ListN.{getD}
+use borrow.Author.Tests.{lt-ltb}
+use Rattle.loops.specs.Local.{Local}
+use Rattle.plane.specs.Gap.{Close}
+use Rattle.plane.specs.Line.{Pass, columns, rows, Piece, Box, Room, Placed}
+use Rattle.plane.specs.Line as line
+use Rattle.plane.specs.Plane.{luma, chroma, Plane, class, ruleOf, act, InRow}
+use Rattle.plane.proofs.Gaps.{gap-close, after-start, before-end}
+use Rattle.plane.proofs.Pieces.{Fair, fair-luma, fair-chroma, inner-some, ruleAt, Writes, Reads, local-of, reads-piece}
+use Rattle.gap.specs.Numbers.{part}
+use Rattle.gap.specs.Promises.{Nowhere}
+use Rattle.filter.specs.declared.Component.{Component}
+use Rattle.filter.specs.Filter.{Tables, levelOf, planeOf}
+use Rattle.filter.specs.Ready.{Stored, Fit}
+use Rattle.frames.specs.Looked.{Looked}
+use Rattle.frames.proofs.Kepts.{Size, in-frame, by-size, in-groups, class-gives}
+
+fair : (b : Bool) → Fair (cond b luma chroma)
+fair true = fair-luma
+fair false = fair-chroma
+
+tall : (sb4 ss : ℕ) → Size sb4 → ss ≤ 1 → 8 ≤ sb4 / 2 ^ ss
+tall = by-size (λ sb4 ss. 8 ≤ sb4 / 2 ^ ss) (omega arith) (omega arith) (omega arith) (omega arith)
+
+module _ (c : Component) (t : Tables) (len : ℕ) (s : Stored c t len) (k : ℕ) where
+  abbrev P : Plane
+  P = planeOf c t
+
+  abbrev R : ℕ → ℕ
+  R = P .widths .reads
+
+  wide : Fair (P .widths)
+  wide = fair (eqb (c .plane) 0)
+
+  -- how far an edge piece of the row reads
+  abbrev Far : Pass → ℕ → Piece → Type 0
+  Far columns n p = (n ≤ 4 * p .0) × (4 * p .0 + n ≤ 4 * (P .groups * P .group))
+  Far rows n p = (n ≤ 4 * p .0) × (4 * p .0 + n ≤ 4 * (suc k * P .sb))
+
+  far-columns : Fit c t columns k → (p : Piece) (cls : ℕ) → InRow P columns k p → 0 < p .0 → P .edge columns p ≡ some cls → Far columns (R cls) p
+  far-columns f p cls r h e =
+      let i = in-frame c t columns p cls e in
+      let w = in-groups (p .0) (c .w4 .0) (c .ssx) (s .proper .ssx-le) (i .0) in
+      let to : p .1 < (k + 1) * P .sb = (let z : k + 1 ≡ suc k = omega arith in rw z (r .to)) in
+      let g : Close (λ u. P .edge columns (u, p .1)) Nowhere (P .groups * P .group) =
+      gap-close _ _ _ (λ u. no (λ x. x)) (f .gap (p .1) (r .from, to, i .1)) in
+      (after-start R (wide .reach) _ _ _ g (p .0) cls e h, before-end R (wide .reach) _ _ _ g (p .0) cls e w)
+
+  far-rows : Fit c t rows k → (p : Piece) (cls : ℕ) → InRow P rows k p → 0 < p .0 → P .edge rows p ≡ some cls → Far rows (R cls) p
+  unfolding part
+  far-rows f p cls r h e =
+      let i = in-frame c t rows p cls e in
+      let u = p .0 - k * P .sb in
+      let l : u < P .sb = omega (arith, r .from, r .to, suc-mul k (P .sb)) in
+      let z : k * P .sb + u ≡ p .0 = omega (arith, r .from) in
+      let q : part (k * P .sb) (P .sb) (λ y. P .edge rows (y, p .1)) u ≡ some cls = part-edge u l z in
+      let g : Close (part (k * P .sb) (P .sb) (λ y. P .edge rows (y, p .1))) Nowhere (P .sb) =
+      gap-close _ _ _ (λ u. no (λ x. x)) (f .gap (p .1) (i .1)) in
+      let b = before-end R (wide .reach) _ _ _ g u cls q l in (
+        by-cases (ℕ-discrete u 0)
+            (λ n. omega (arith, wide .reach .any cls, tall (c .sb4 .0) (c .ssy) (s .size) (s .proper .ssy-le), top (omega arith)))
+            (λ n. omega (arith, after-start R (wide .reach) _ _ _ g u cls q (omega arith))),
+        omega (arith, suc-mul k (P .sb)),
+      )
+    where
+      part-edge : (u : ℕ) → u < P .sb → k * P .sb + u ≡ p .0 → part (k * P .sb) (P .sb) (λ y. P .edge rows (y, p .1)) u ≡ some cls
+      part-edge u l z = rw (lt-ltb u (P .sb) l) (rw z e)
+
+      -- a row past the first has one above it
+      top : p .0 ≡ k * P .sb → P .sb ≤ p .0
+      top z = by-cases (ℕ-discrete k 0) (λ n. absurd (omega (arith, ap (λ (m : ℕ). m * P .sb) n))) (λ n. omega (arith, up (k - 1) (omega arith)))
+        where
+          up : (j : ℕ) → k ≡ suc j → P .sb ≤ k * P .sb
+          up j e = rw e (omega (arith, suc-mul j (P .sb)))
+
+  far : (d : Pass) → Fit c t d k → (p : Piece) (cls : ℕ) → InRow P d k p → class P d p ≡ some cls → Far d (R cls) p
+  far columns f p cls r e = let x = inner-some (p .0) (P .edge columns p) cls e in far-columns f p cls r (x .0) (x .1)
+  far rows f p cls r e = let x = inner-some (p .0) (P .edge rows p) cls e in far-rows f p cls r (x .0) (x .1)
+
+  -- the samples of a piece are there
+  placed : (d : Pass) → Fit c t d k → (p : Piece) → InRow P d k p → (cls : ℕ) → class P d p ≡ some cls → Placed d (P .stride) (ruleAt P d p) p
+  placed d f p r cls e =
+      subst⁻¹ (λ o. Placed d (P .stride) (ruleOf P d p o) p) e
+      (record {
+        fewer = wide .fewer cls;
+        start = start d (R cls) p (far d f p cls r e);
+        room = room d p cls e (far d f p cls r e);
+        gives = class-gives t (eqb (c .plane) 0) cls (levelOf c t d p);
+      })
+    where
+      start : (d : Pass) (n : ℕ) (p : Piece) → Far d n p → n ≤ 4 * p .0
+      start columns n p x = x .0
+      start rows n p x = x .0
+
+      room : (d : Pass) (p : Piece) (cls : ℕ) → class P d p ≡ some cls → Far d (R cls) p → Room d (P .stride) (R cls) p
+      room columns p cls e x = omega (arith, s .stored-wide)
+      room rows p cls e x =
+          let i = in-frame c t rows p cls (inner-some (p .0) (P .edge rows p) cls e .1) in
+          omega (arith, s .stored-wide, in-groups (p .1) (c .w4 .0) (c .ssx) (s .proper .ssx-le) (i .1))
+
+  -- and what it reads is looked at
+  pub reads-looked : (d : Pass) → Fit c t d k → (p : Piece) → InRow P d k p → (i : ℕ) → Reads P d p i → Looked c d k i
+  reads-looked d f p r i b =
+      let x = reads-piece P d p i b in
+      let e : ruleAt P d p .reads ≡ R (x .0) = ap (λ o. ruleOf P d p o .reads) (x .1) in
+      go d f p r (x .0) (x .1) (far d f p (x .0) r (x .1)) (wide .reach .any (x .0)) (subst (λ n. Box d (P .stride) n p i) e b)
+    where
+      go : (d : Pass) → Fit c t d k → (p : Piece) → InRow P d k p → (cls : ℕ) → class P d p ≡ some cls → Far d (R cls) p → R cls ≤ 8 → Box d (P .stride) (R cls) p i → Looked c d k i
+      go columns f p r cls e x m b = record { right = omega (arith, b .right); from = omega (arith, b .from, r .from); to = omega (arith, b .below, r .to) }
+      go rows f p r cls e x m b =
+          let j = in-frame c t rows p cls (inner-some (p .0) (P .edge rows p) cls e .1) in
+          record {
+            right = omega (arith, b .below, in-groups (p .1) (c .w4 .0) (c .ssx) (s .proper .ssx-le) (j .1));
+            from = omega (arith, b .left, r .from);
+            to = omega (arith, b .right);
+          }
+
+  pub local-row : (d : Pass) → Fit c t d k → (p : Piece) → InRow P d k p → Local (line.lineOf d (P .stride)) (Writes P d p) (Reads P d p) (act P d p)
+  local-row d f p r = local-of P d p (placed d f p r)
+
+  -- so it changes no other
+  pub act-outside : (d : Pass) → Fit c t d k → (p : Piece) → InRow P d k p → (l : List ℕ) (i : ℕ) → ¬ Looked c d k i
+      → getD (act P d p l) i 0 ≡ getD l i 0
+  act-outside d f p r l i n = local-row d f p r .outside l i (λ w. n (reads-looked d f p r i (local-row d f p r .within i w)))

@@ -1,0 +1,1 @@
+// Demand 3: theorems about the calls that filter a frame.
