@@ -1,6 +1,6 @@
 // A block to record: its visible size in luma and chroma units, and the number that refuses it.
 pub mod number;
-mod tests;
+pub mod tests;
 
 use units::ChromaUnit;
 use units::LumaUnit;

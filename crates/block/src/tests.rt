@@ -89,7 +89,7 @@ pub fn reference_bad(b: Block) -> bool
     b.inter & (7 < b.reference)
 }
 
-fn context_bad(ctx: &[u8], n: usize, most: u8) -> bool
+pub fn context_bad(ctx: &[u8], n: usize, most: u8) -> bool
     ensures { λ r. ⌜ r ≡ contextBad n most (now (ctx .entry)) ⌝ }
 {
     if ctx.len() < n {

@@ -1,0 +1,4 @@
+-- a tile's start, and the lines of units that are corrected there
+pub mod Start
+-- what a correction stores
+pub mod Correct
