@@ -3,20 +3,24 @@
 --   cleared           all bits of an edge cleared; its bit of class c is `bit c`
 --   corrected         and that of min (old, context) set
 --   correctLine       n units from `first` on, at `across`
---   lineDone          of a `Line`
+--   gridIn, lineDone  the plane of a `Line`, and its units corrected
 --   planeDone         of one plane at a tile's start
 --   done              of all planes
---   Room              what the code asks of an edge's first bit: up to the highest old class its bits lie in the masks
+-- and what the code asks
+--   Room              of an edge's first bit: up to the highest old class its bits lie in the masks
+--   Within            of a unit of a line: it lies in the frame
+--   Fits              of a line: all its units do, and masks and context are long enough
 use mathlib.Core.Bool.{Bool, true, false, cond}
 use mathlib.Core.List.{List}
 use mathlib.Core.Path.{_≡_}
-use Prim.Native.Nat.{ℕ, _+_, _*_, _/_, _^_, _<_, min}
+use Prim.Native.Nat.{ℕ, _+_, _*_, _/_, _^_, _≤_, _<_, min}
 use lib.ListN.{getD}
 use mir.Val.{boolByte}
 use Rattle.loops.specs.Run.{upTo}
 use Rattle.bits.specs.Mark.{isSet, mark, unmark}
 use Rattle.plane.specs.Line.{Pass}
-use Rattle.edges.specs.Edges.{Grid, gridOf, edgeBit}
+use Rattle.edges.specs.Edges.{Grid, Proper, gridOf, other, unitsOf, edgeBit}
+use Rattle.units.specs.Frame.{frameRecords}
 use Rattle.correct.specs.declared.Start.{Start}
 use Rattle.correct.specs.declared.Line.{Line}
 use Rattle.correct.specs.Start.{passOf, lineOf, corrects}
@@ -34,8 +38,11 @@ corrected luma bit context ms = mark (cleared luma bit ms) (bit (min (oldClass l
 unfoldable pub correctLine : Grid → Pass → ℕ → ℕ → ℕ → List ℕ → List ℕ → List ℕ
 correctLine G d across first n context = upTo (λ i. corrected (G .isLuma) (edgeBit G d (across, first + i)) (getD context i 0)) n
 
+abbrev pub gridIn : Line → Grid
+gridIn l = gridOf (l .luma) (l .hor) (l .ver) (l .w4 .0) (l .h4 .0)
+
 abbrev pub lineDone : Line → List ℕ → List ℕ → List ℕ
-lineDone l = correctLine (gridOf (l .luma) (l .hor) (l .ver) (l .w4 .0) (l .h4 .0)) (passOf (l .rows)) (l .across) (l .first) (l .n)
+lineDone l = correctLine (gridIn l) (passOf (l .rows)) (l .across) (l .first) (l .n)
 
 abbrev pub planeDone : Start → Bool → List ℕ → List ℕ → List ℕ
 planeDone t luma context ms = cond (corrects t luma) (lineDone (lineOf t luma) context ms) ms
@@ -47,3 +54,19 @@ pub record Room (luma : Bool) (e len : ℕ) : Type 0 where
   pub two : (e + 32) / 16 < len
   pub four : luma ≡ true → (e + 96) / 16 < len
   pub in-usize : e + 96 < 2 ^ 64
+
+pub record Within (l : Line) (along : ℕ) : Type 0 where
+  pub proper : Proper (gridIn l)
+  pub wide : l .w4 .0 ≤ 4096
+  pub high : l .h4 .0 ≤ 4096
+  pub across-in : l .across < unitsOf (gridIn l) (passOf (l .rows))
+  pub along-in : along < unitsOf (gridIn l) (other (passOf (l .rows)))
+
+pub record Fits (l : Line) (masks context : ℕ) : Type 0 where
+  pub proper : Proper (gridIn l)
+  pub wide : l .w4 .0 ≤ 4096
+  pub high : l .h4 .0 ≤ 4096
+  pub across-in : l .across < unitsOf (gridIn l) (passOf (l .rows))
+  pub end-in : l .first + l .n ≤ unitsOf (gridIn l) (other (passOf (l .rows)))
+  pub long : 640 * frameRecords (l .w4 .0) (l .h4 .0) ≤ masks
+  pub context-long : l .n ≤ context
