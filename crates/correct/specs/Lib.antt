@@ -2,3 +2,5 @@
 pub mod Start
 -- what a correction stores
 pub mod Correct
+-- the tests of the numbers
+pub mod Tests

@@ -9,8 +9,13 @@
 --   lineOf                    all of these as the code's `Line`
 --   inside                    superblock row and tile start lie in the frame
 --   corrects                  something is corrected in a plane: inside the frame, not at its unit 0, and no chroma at 4:0:0
-use mathlib.Core.Bool.{Bool, cond, not, _&&_, _||_}
-use Prim.Native.Nat.{ℕ, _+_, _-_, _*_, min}
+-- and what the code asks
+--   Shaped                    sides of a frame and of a superblock
+--   Inside                    and a start in the frame
+use mathlib.Core.Bool.{Bool, cond, _&&_, _||_}
+use mathlib.Core.Logic.{_⊎_}
+use mathlib.Core.Path.{_≡_}
+use Prim.Native.Nat.{ℕ, _+_, _-_, _*_, _≤_, _<_, min}
 use lib.Dec.{ltb}
 use Rattle.plane.specs.Line.{Pass, columns, rows}
 use Rattle.units.specs.Units.{unitsOf, chromaUnit, chromaUnits}
@@ -67,3 +72,15 @@ inside t = ltb (t .row) (superblocks (h4 t) (sb4 t)) && ltb (t .start) (superblo
 
 abbrev pub corrects : Start → Bool → Bool
 corrects t luma = (luma || hasChroma (t .layout)) && (inside t && ltb 0 (begin t))
+
+pub record Shaped (t : Start) : Type 0 where
+  pub wide : (1 ≤ t .width .0) × (t .width .0 ≤ 16384)
+  pub high : (1 ≤ t .height .0) × (t .height .0 ≤ 16384)
+  pub size : (t .superblock ≡ 64) ⊎ (t .superblock ≡ 128)
+
+pub record Inside (t : Start) : Type 0 where
+  pub wide : t .width .0 ≤ 16384
+  pub high : t .height .0 ≤ 16384
+  pub size : (sb4 t ≡ 16) ⊎ (sb4 t ≡ 32)
+  pub row-in : t .row * sb4 t < h4 t
+  pub start-in : t .start * sb4 t < w4 t

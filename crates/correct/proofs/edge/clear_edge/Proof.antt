@@ -3,8 +3,8 @@ use native.Mathlib.Omega.{arith}
 use borrow.Author.Tests.{not-true, not-false}
 use borrow.Author.Needs.{needs}
 use Rattle.correct.proofs.Steps.{clear-chroma, clear-luma}
-use Rattle.correct.proofs.clear_edge.Statement.{statement}
-use Rattle.correct.proofs.clear_edge.Tie as tie
+use Rattle.correct.proofs.edge.clear_edge.Statement.{statement}
+use Rattle.correct.proofs.edge.clear_edge.Tie as tie
 
 clear-bit-requires : tie.Need-clear-bit-requires
 clear-bit-requires c κs = search needs

@@ -7,8 +7,8 @@ use borrow.Author.Needs.{needs}
 use Rattle.correct.proofs.Lines.{within, room, line-none, line-step, along-le}
 use Rattle.correct.specs.Start.{passOf}
 use Rattle.correct.specs.Correct.{correctLine, gridIn}
-use Rattle.correct.proofs.correct_line.Statement.{statement}
-use Rattle.correct.proofs.correct_line.Tie as tie
+use Rattle.correct.proofs.edge.correct_line.Statement.{statement}
+use Rattle.correct.proofs.edge.correct_line.Tie as tie
 
 abbrev Inv-loop : tie.InvT-loop
 Inv-loop masks₀ l context n i₀ masks i = (i ≤ n) × (length masks ≡ length masks₀) × (masks ≡ correctLine (gridIn l) (passOf (l .rows)) (l .across) (l .first) i context masks₀)

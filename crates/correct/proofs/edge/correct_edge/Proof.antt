@@ -6,8 +6,8 @@ use denote.Ref.{now}
 use borrow.Author.Needs.{needs}
 use Rattle.correct.proofs.Steps.{old-le, room-old, correct-step}
 use Rattle.bits.specs.Mark.{isSet}
-use Rattle.correct.proofs.correct_edge.Statement.{statement}
-use Rattle.correct.proofs.correct_edge.Tie as tie
+use Rattle.correct.proofs.edge.correct_edge.Statement.{statement}
+use Rattle.correct.proofs.edge.correct_edge.Tie as tie
 
 old-class-requires : tie.Need-old-class-requires
 old-class-requires c κs = search needs

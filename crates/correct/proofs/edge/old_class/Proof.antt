@@ -5,8 +5,8 @@ use denote.Ref.{now}
 use borrow.Author.Needs.{needs}
 use Rattle.correct.proofs.Steps.{flag-le, old-luma, old-chroma}
 use Rattle.bits.specs.Mark.{isSet}
-use Rattle.correct.proofs.old_class.Statement.{statement}
-use Rattle.correct.proofs.old_class.Tie as tie
+use Rattle.correct.proofs.edge.old_class.Statement.{statement}
+use Rattle.correct.proofs.edge.old_class.Tie as tie
 
 add-test-bit : tie.Need-add-test-bit
 add-test-bit c = search needs

@@ -3,8 +3,8 @@ use native.Mathlib.Omega.{arith}
 use borrow.Author.Needs.{needs}
 use Rattle.correct.proofs.Lines.{sides, row-edge, column-edge, across-le, along-le, edge-small}
 use Rattle.correct.specs.Correct.{gridIn}
-use Rattle.correct.proofs.edge_at.Statement.{statement}
-use Rattle.correct.proofs.edge_at.Tie as tie
+use Rattle.correct.proofs.edge.edge_at.Statement.{statement}
+use Rattle.correct.proofs.edge.edge_at.Tie as tie
 
 shr-wide : tie.Need-shr-wide
 shr-wide c = search needs
