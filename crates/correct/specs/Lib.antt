@@ -4,3 +4,5 @@ pub mod Start
 pub mod Correct
 -- the tests of the numbers
 pub mod Tests
+-- the two calls
+pub mod Answer

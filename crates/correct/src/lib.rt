@@ -3,10 +3,17 @@ mod edge;
 mod number;
 mod place;
 
+use edge::correct_line;
+use number::number;
+use place::corrects;
+use place::line;
 use units::LumaUnit;
 use units::Sample;
 ghost use mathlib.Core.Path.{_≡_};
 ghost use Prim.Native.Nat.{min};
+ghost use lib.ListN.{length};
+ghost use Rattle.correct.specs.Correct.{planeDone};
+ghost use Rattle.correct.specs.Answer.{columnOf, rowOf, CorrectAnswer, Ready};
 
 // The start of a tile: frame, pass, superblock row, and the superblock of the tile's first column, 0 in the row pass.
 pub struct Start {
@@ -36,4 +43,77 @@ fn least(a: usize, b: usize) -> usize
     ensures { λ r. ⌜ r ≡ min a b ⌝ }
 {
     if a < b { a } else { b }
+}
+
+fn correct_plane(masks: &mut [u16], t: Start, luma: bool, context: &[u8])
+    requires { ⌜ Ready t luma (length (now masks)) (length (now context)) ⌝ }
+    ensures { λ _. ⌜ now (masks .exit) ≡ planeDone t luma (now (context .entry)) (now (masks .entry)) ⌝ }
+{
+    if !corrects(t, luma) {
+        return;
+    }
+    correct_line(masks, line(t, luma), context);
+}
+
+fn correct(masks: &mut [u16], t: Start, context: &[u8], context_uv: &[u8]) -> u32
+    ensures { λ r. ⌜ CorrectAnswer t (now (context .entry)) (now («context_uv» .entry)) r (now (masks .entry)) (now (masks .exit)) ⌝ }
+{
+    let n = number(t, masks.len(), context, context_uv);
+    if n != 0 {
+        return n;
+    }
+    correct_plane(masks, t, true, context);
+    correct_plane(masks, t, false, context_uv);
+    0
+}
+
+// A tile whose first column is superblock `start`, in superblock row `row`; the contexts begin at the row's first unit.
+pub fn correct_column(
+    masks: &mut [u16],
+    width: u32,
+    height: u32,
+    layout: u32,
+    superblock: u32,
+    row: u32,
+    start: u32,
+    left: &[u8],
+    left_uv: &[u8],
+) -> u32
+    ensures { λ r. ⌜ CorrectAnswer (columnOf width height layout superblock row start) (now (left .entry)) (now («left_uv» .entry)) r (now (masks .entry)) (now (masks .exit)) ⌝ }
+{
+    let t = Start {
+        width: Sample(width as usize),
+        height: Sample(height as usize),
+        layout: layout as usize,
+        superblock: superblock as usize,
+        rows: false,
+        row: row as usize,
+        start: start as usize,
+    };
+    correct(masks, t, left, left_uv)
+}
+
+// A tile row that begins at superblock row `row`; the contexts begin at the frame's first unit.
+pub fn correct_row(
+    masks: &mut [u16],
+    width: u32,
+    height: u32,
+    layout: u32,
+    superblock: u32,
+    row: u32,
+    above: &[u8],
+    above_uv: &[u8],
+) -> u32
+    ensures { λ r. ⌜ CorrectAnswer (rowOf width height layout superblock row) (now (above .entry)) (now («above_uv» .entry)) r (now (masks .entry)) (now (masks .exit)) ⌝ }
+{
+    let t = Start {
+        width: Sample(width as usize),
+        height: Sample(height as usize),
+        layout: layout as usize,
+        superblock: superblock as usize,
+        rows: true,
+        row: row as usize,
+        start: 0,
+    };
+    correct(masks, t, above, above_uv)
 }
