@@ -102,7 +102,7 @@ module _ (b : Block) where
       plain : ReferenceFault b → (b .inter ≡ true) × (7 < b .reference)
       plain (reference-above i h) = (i, h)
 
-reflects-context : (n most : ℕ) (c : List ℕ) → Reflects (contextBad n most c) (ContextFault n most c)
+pub reflects-context : (n most : ℕ) (c : List ℕ) → Reflects (contextBad n most c) (ContextFault n most c)
 reflects-context n most c =
     reflects-as (record { only = ⊎-elim fewer (λ p. above-range (p .0) (p .1) (p .2)); always = plain })
     (reflects-or (reflects-ltb (length c) n) (reflects-any n (λ i. ltb most (getD c i 0)) (λ i. most < getD c i 0) (λ i _. reflects-ltb most (getD c i 0))))

@@ -6,3 +6,6 @@ pub mod Correct
 pub mod Tests
 -- the two calls
 pub mod Answer
+-- what the numbers refuse, and what 01 promises
+pub mod Faults
+pub mod Promises
