@@ -1,6 +1,7 @@
 -- What document 01 promises of `correct_column` and `correct_row`, as theorems on their contract alone.
---   Plane             luma, and chroma unless the layout is 4:0:0
---   Unit              a unit that is corrected
+--   HasPlane          luma, and chroma unless the layout is 4:0:0
+--   CorrectedUnit     a unit that is corrected
+--   bitAt             the bit of class c at a unit
 --   newClass          the lesser of its old class and its context's
 --   Promised          of one answer
 --   Promises          of all
@@ -22,16 +23,15 @@ use Rattle.correct.specs.Correct.{oldClass}
 use Rattle.correct.specs.Faults.{ShapeFault, ContextsFault, LengthFault, OutsideFault}
 use Rattle.correct.specs.Answer.{CorrectAnswer}
 
-abbrev pub Plane : Start → Bool → Type 0
-Plane t luma = (luma ≡ true) ⊎ (¬ (t .layout ≡ 400))
+abbrev pub HasPlane : Start → Bool → Type 0
+HasPlane t luma = (luma ≡ true) ⊎ (¬ (t .layout ≡ 400))
 
-pub record Unit (t : Start) (luma : Bool) (p : Piece) : Type 0 where
-  pub plane : Plane t luma
+pub record CorrectedUnit (t : Start) (luma : Bool) (p : Piece) : Type 0 where
+  pub plane : HasPlane t luma
   pub at : p .0 ≡ across t luma
   pub from : first t luma ≤ p .1
   pub to : p .1 < end t luma
 
--- the bit of class c at a unit
 abbrev pub bitAt : Start → Bool → Piece → ℕ → ℕ
 bitAt t luma p = edgeBit (gridAt t luma) (passOf (t .rows)) p
 
@@ -53,12 +53,12 @@ pub record Promised (t : Start) (context context-uv : List ℕ) (r : ℕ) (befor
   pub at-unit-0 : begin t ≡ 0 → after ≡ before
   pub long : length after ≡ length before
   -- of each corrected unit one bit is set, that of its new class
-  pub bits : r ≡ 0 → 0 < begin t → (luma : Bool) (p : Piece) → Unit t luma p → (c : ℕ) → c < classes (gridAt t luma)
+  pub bits : r ≡ 0 → 0 < begin t → (luma : Bool) (p : Piece) → CorrectedUnit t luma p → (c : ℕ) → c < classes (gridAt t luma)
       → isSet after (bitAt t luma p c) ≡ eqb c (newClass t luma context context-uv before p)
-  pub edges : r ≡ 0 → 0 < begin t → (luma : Bool) (p : Piece) → Unit t luma p
+  pub edges : r ≡ 0 → 0 < begin t → (luma : Bool) (p : Piece) → CorrectedUnit t luma p
       → edge (gridAt t luma) after (passOf (t .rows)) p ≡ some (newClass t luma context context-uv before p)
   -- every other bit stays
-  pub others : (x : ℕ) → ((luma : Bool) (p : Piece) (c : ℕ) → Unit t luma p → c < classes (gridAt t luma) → ¬ (bitAt t luma p c ≡ x))
+  pub others : (x : ℕ) → ((luma : Bool) (p : Piece) (c : ℕ) → CorrectedUnit t luma p → c < classes (gridAt t luma) → ¬ (bitAt t luma p c ≡ x))
       → isSet after x ≡ isSet before x
 
 pub record Promises : Type 0 where

@@ -14,6 +14,7 @@ ghost use Prim.Native.Nat.{min};
 ghost use lib.ListN.{length};
 ghost use Rattle.correct.specs.Correct.{planeDone};
 ghost use Rattle.correct.specs.Answer.{columnOf, rowOf, CorrectAnswer, Ready};
+ghost use Rattle.correct.specs.Promises.{Promises};
 
 // The start of a tile: frame, pass, superblock row, and the superblock of the tile's first column, 0 in the row pass.
 pub struct Start {
@@ -117,3 +118,8 @@ pub fn correct_row(
     };
     correct(masks, t, above, above_uv)
 }
+
+// The theorems of specs/Promises.antt are proved.
+pub fn promised()
+    ensures { λ _. ⌜ Promises ⌝ }
+{}
