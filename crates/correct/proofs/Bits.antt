@@ -13,7 +13,7 @@ use borrow.Author.Tests.{eq-eqb, ne-eqb}
 use Rattle.loops.specs.Any.{anyBelow}
 use Rattle.loops.specs.Run.{upTo}
 use Rattle.loops.proofs.Anys.{any-true, any-false}
-use Rattle.bits.specs.Mark.{isSet, mark, unmark}
+use Rattle.bits.specs.Mark.{isSet, unmark}
 use Rattle.bits.proofs.Marks.{length-mark, isSet-mark, length-unmark, isSet-unmark}
 use Rattle.correct.specs.Correct.{oldClass, cleared, corrected}
 use Rattle.correct.proofs.Steps.{old-lt}

@@ -3,20 +3,19 @@ use mathlib.Core.Bool.{Bool, true, false, not, _||_}
 use mathlib.Core.List.{List, [], _∷_}
 use mathlib.Core.Logic.{_⊎_, inl, inr, ⊎-elim, by-cases}
 use mathlib.Core.Path.{_≡_, refl}
-use Prim.Native.Nat.{ℕ, _*_, _<_, _≤_}
+use Prim.Native.Nat.{ℕ, _<_, _≤_}
 use native.Mathlib.Decide.{decLt}
 use native.Mathlib.Omega.{arith}
-use lib.ListN.{length}
 use Rattle.loops.specs.Exactly.{Exactly, Reflects, Row, row}
 use Rattle.loops.proofs.Reflected.{exactly-then, reflects-ltb, reflects-flag, reflects-as, reflects-not, reflects-and, reflects-or}
 use Rattle.loops.proofs.Numbers.{gives, gives-0}
 use Rattle.units.specs.Layout.{Layout, hasChroma}
-use Rattle.units.specs.Frame.{frameRecords, superblocks}
+use Rattle.units.specs.Frame.{superblocks}
 use Rattle.units.proofs.Tests.{reflects-layout, reflects-chroma, reflects-frame, reflects-superblock, reflects-masks}
 use Rattle.block.specs.Faults.{ContextFault}
 use Rattle.block.proofs.Numbers.{reflects-context}
 use Rattle.correct.specs.declared.Start.{Start}
-use Rattle.correct.specs.Start.{w4, h4, sb4, begin, inside, corrects}
+use Rattle.correct.specs.Start.{w4, h4, sb4, begin, inside}
 use Rattle.correct.specs.Tests.{shapeBad, unitsAlong, most, contextRefused, lengthBad, number}
 use Rattle.correct.specs.Faults.{ShapeFault, layout-other, size-outside, superblock-other, Corrects}
 use Rattle.correct.specs.Faults.{ContextsFault, luma, chroma, LengthFault, OutsideFault, row-outside, start-outside}

@@ -7,18 +7,15 @@ use native.Mathlib.Nat.{add-mul}
 use native.Mathlib.Omega.{arith}
 use lib.Dec.{ltb}
 use borrow.Author.Tests.{ltb-true, not-false}
-use Rattle.loops.specs.Exactly.{Exactly}
-use Rattle.loops.proofs.Tables.{each-at}
-use Rattle.plane.specs.Line.{Pass, columns, rows}
 use Rattle.units.specs.Units.{chromaUnit, chromaUnits}
 use Rattle.units.specs.Layout.{layoutOk, hasChroma, ssHor, ssVer}
-use Rattle.units.specs.Frame.{frameOk, frameRecords, superblockOk, superblocks}
+use Rattle.units.specs.Frame.{frameOk, superblockOk, superblocks}
 use Rattle.units.proofs.Places.{ss-hor-le, ss-ver-le, chroma-unit-in, superblock-in}
 use Rattle.units.proofs.Tests.{reflects-frame, reflects-superblock}
 use Rattle.block.proofs.Passed.{or-off}
-use Rattle.edges.specs.Edges.{Grid, Proper, ssOf, other, unitsOf}
+use Rattle.edges.specs.Edges.{Proper, ssOf}
 use Rattle.correct.specs.declared.Start.{Start}
-use Rattle.correct.specs.Start.{w4, h4, sb4, passOf, gridAt, begin, across, first, end, lineOf, inside, corrects, Shaped, Inside}
+use Rattle.correct.specs.Start.{w4, h4, sb4, passOf, gridAt, begin, across, first, end, inside, corrects, Shaped, Inside}
 use Rattle.correct.specs.Tests.{shapeBad}
 
 -- ---- the plane

@@ -1,5 +1,5 @@
 -- A start whose number is 0 is as the work behind the number asks: its line fits the frame, the masks and the context.
-use mathlib.Core.Path.{_≡_, refl, sym, ap, _∙_, subst}
+use mathlib.Core.Path.{_≡_, sym, ap, _∙_, subst}
 use mathlib.Core.Bool.{Bool, true, false, cond, not, _&&_}
 use mathlib.Core.List.{List}
 use Prim.Native.Nat.{ℕ, _+_, _-_, _*_, _≤_, _<_, min}
@@ -17,15 +17,14 @@ use Rattle.units.proofs.Places.{chroma-unit-in}
 use Rattle.units.proofs.Tests.{reflects-masks}
 use Rattle.block.specs.Tests.{contextBad}
 use Rattle.block.proofs.Passed.{or-off}
-use Rattle.plane.specs.Line.{Pass, columns, rows}
 use Rattle.edges.specs.Edges.{ssOf, other, unitsOf}
 use Rattle.correct.specs.declared.Start.{Start}
 use Rattle.correct.specs.declared.Line.{Line}
-use Rattle.correct.specs.Start.{w4, h4, sb4, passOf, gridAt, begin, across, first, end, lineOf, inside, corrects, Shaped, Inside}
+use Rattle.correct.specs.Start.{w4, h4, sb4, passOf, gridAt, across, end, lineOf, inside, corrects, Inside}
 use Rattle.correct.specs.Correct.{lineDone, planeDone, Fits}
 use Rattle.correct.specs.Tests.{shapeBad, unitsAlong, most, contextRefused, lengthBad, number}
 use Rattle.correct.specs.Answer.{Ready}
-use Rattle.correct.proofs.Places.{proper, shaped, first-le, corrects-inside}
+use Rattle.correct.proofs.Places.{proper, shaped, first-le}
 
 -- ---- the line
 

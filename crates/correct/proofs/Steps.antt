@@ -1,11 +1,10 @@
 -- What the code's calls make of one edge, whose bit of class c is e + 32 * c, is what the definitions say, at each kind of plane.
-use mathlib.Core.Path.{_≡_, refl, sym, _∙_}
-use mathlib.Core.Bool.{Bool, true, false, cond, false≢true}
+use mathlib.Core.Path.{_≡_, refl, _∙_}
+use mathlib.Core.Bool.{Bool, true, false, cond}
 use mathlib.Core.List.{List}
 use Prim.Native.Nat.{ℕ, _+_, _*_, _/_, _≤_, _<_, min}
 use native.Mathlib.Nat.{add-zero}
 use native.Mathlib.Omega.{arith}
-use lib.ListN.{length}
 use mir.Val.{boolByte}
 use Rattle.bits.specs.Mark.{isSet, mark, unmark}
 use Rattle.correct.specs.Correct.{oldClass, cleared, corrected, Room}

@@ -1,7 +1,7 @@
 -- The promises: an answer's number is the definition's, and its masks are those before or those of two lines corrected, luma's and then
 -- chroma's, whose bits are apart, so each unit is corrected as it was before all.
 use mathlib.Core.Path.{_≡_, refl, sym, ap, ap₂, _∙_, subst}
-use mathlib.Core.Bool.{Bool, true, false, cond, not, _&&_, _||_, false≢true, and-false, and-eq-true-iff}
+use mathlib.Core.Bool.{Bool, true, false, cond, _&&_, _||_, false≢true, and-false, and-eq-true-iff}
 use mathlib.Core.List.{List}
 use mathlib.Core.Logic.{_⊎_, inl, inr, ⊎-elim, by-cases}
 use mathlib.Core.Option.{some, none}
@@ -10,7 +10,7 @@ use native.Mathlib.Decide.{ℕ-discrete}
 use native.Mathlib.Omega.{arith}
 use lib.Dec.{eqb, ltb}
 use lib.ListN.{length, getD}
-use borrow.Author.Tests.{ne-eqb, eq-eqb, lt-ltb, ltb-true, ltb-false, not-false}
+use borrow.Author.Tests.{ne-eqb, eq-eqb, lt-ltb, ltb-false, not-false}
 use Rattle.loops.specs.Any.{anyBelow}
 use Rattle.loops.specs.Exactly.{Exactly}
 use Rattle.loops.proofs.Anys.{any-each}
@@ -21,11 +21,11 @@ use Rattle.units.specs.Layout.{hasChroma}
 use Rattle.units.proofs.Tests.{reflects-chroma}
 use Rattle.block.specs.Tests.{contextBad}
 use Rattle.block.proofs.Passed.{or-off}
-use Rattle.edges.specs.Edges.{classes, other, unitsOf, inFrame, highest, edgeBit, edge}
+use Rattle.edges.specs.Edges.{classes, other, unitsOf, highest, edge}
 use Rattle.edges.proofs.Bits.{edge-bit-in, edge-bit-inj, kinds-apart, highest-one}
 use Rattle.correct.specs.declared.Start.{Start}
-use Rattle.correct.specs.Start.{w4, h4, passOf, gridAt, begin, across, first, end, lineOf, inside, corrects, Inside}
-use Rattle.correct.specs.Correct.{oldClass, corrected, correctLine, lineDone, planeDone, done}
+use Rattle.correct.specs.Start.{w4, h4, passOf, gridAt, begin, across, first, lineOf, inside, corrects, Inside}
+use Rattle.correct.specs.Correct.{oldClass, correctLine, lineDone, planeDone, done}
 use Rattle.correct.specs.Tests.{unitsAlong, most, contextRefused, number}
 use Rattle.correct.specs.Answer.{CorrectAnswer}
 use Rattle.correct.specs.Promises.{HasPlane, CorrectedUnit, bitAt, newClass, Promised, Promises}

@@ -5,7 +5,7 @@
 --   newClass          the lesser of its old class and its context's
 --   Promised          of one answer
 --   Promises          of all
-use mathlib.Core.Bool.{Bool, true, false, cond}
+use mathlib.Core.Bool.{Bool, true, cond}
 use mathlib.Core.List.{List}
 use mathlib.Core.Logic.{_⊎_}
 use mathlib.Core.Option.{some}
