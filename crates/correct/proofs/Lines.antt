@@ -57,11 +57,31 @@ records-le : (w h : ℕ) → w ≤ 4096 → h ≤ 4096 → frameRecords w h ≤ 
 records-le w h p q = prod-le (records w) (records h) 128 128 (omega arith) (omega arith)
 
 module _ (l : Line) (v : ℕ) (w : Within l v) where
-  pub across-le : l .across ≤ 4096
+  across-le : l .across ≤ 4096
   across-le = omega (arith, units-le (gridIn l) (w .proper) (w .wide) (w .high) (passOf (l .rows)), w .across-in)
 
   pub along-le : v ≤ 4096
   along-le = omega (arith, units-le (gridIn l) (w .proper) (w .wide) (w .high) (other (passOf (l .rows))), w .along-in)
+
+  -- both places of a unit, to the right and down, whichever the pass
+  pub record Lies : Type 0 where
+    pub across-right : Sides (l .hor) (l .across)
+    pub across-down : Sides (l .ver) (l .across)
+    pub along-right : Sides (l .hor) v
+    pub along-down : Sides (l .ver) v
+    pub across-small : l .across ≤ 4096
+    pub along-small : v ≤ 4096
+
+  pub lies : Lies
+  lies =
+      record {
+        across-right = sides (l .hor) (l .across) (w .proper .ssx-le);
+        across-down = sides (l .ver) (l .across) (w .proper .ssy-le);
+        along-right = sides (l .hor) v (w .proper .ssx-le);
+        along-down = sides (l .ver) v (w .proper .ssy-le);
+        across-small = across-le;
+        along-small = along-le;
+      }
 
   bit-lt : (c : ℕ) → c < cond (l .luma) 4 2 → edgeBit (gridIn l) (passOf (l .rows)) (l .across, v) 0 + 32 * c < 10240 * frameRecords (l .w4 .0) (l .h4 .0)
   bit-lt c h =
