@@ -4,12 +4,11 @@ use mathlib.Core.Bool.{Bool, true, false, cond, not}
 use mathlib.Core.List.{List, []}
 use mathlib.Core.Option.{Option, some, none}
 use Prim.Native.Nat.{ℕ, zero, suc, _+_, _-_, _*_, _≤_, _<_}
-use native.Mathlib.Nat.{le-refl}
 use native.Mathlib.Omega.{arith}
 use lib.Dec.{eqb}
 use lib.ListN.{getD}
 use Rattle.loops.specs.Run.{upTo}
-use Rattle.loops.proofs.Runs.{upTo-idle}
+use Rattle.loops.proofs.Runs.{upTo-idle, upTo-same}
 use Rattle.bits.specs.Bit.{hasBit}
 use Rattle.bits.specs.Walk.{visits}
 use Rattle.plane.specs.Line.{Pass, columns, rows, Rule, Piece, ix, lineStep, sampleStep, put, changed, lineAt, pieceAt, piece}
@@ -91,10 +90,6 @@ module _ (c : Component) (k g a v : ℕ) where
       omega (arith, ap (λ (n : ℕ). n * c .pitch) e)
 
 -- ---- the line
-
-upTo-same : {S : Type 0} (f g : ℕ → S → S) (n : ℕ) → ((i : ℕ) → i < n → (s : S) → f i s ≡ g i s) → (s : S) → upTo f n s ≡ upTo g n s
-upTo-same f g zero h s = refl
-upTo-same f g (suc n) h s = ap (f n) (upTo-same f g n (λ i l. h i (omega arith)) s) ∙ h n (le-refl (suc n)) (upTo g n s)
 
 module _ (c : Component) (t : Tables) (k g a : ℕ) where
   pub line-places : (d : Pass) (l : List ℕ)

@@ -10,7 +10,7 @@ use native.Mathlib.Nat.{mul-le-mul-right}
 use native.Mathlib.Omega.{arith}
 use lib.Dec.{eqb}
 use lib.ListN.{length, getD}
-use Rattle.loops.specs.Run.{upTo}
+use Rattle.loops.proofs.Runs.{upTo-holds}
 use Rattle.bits.specs.Mark.{Words}
 use Rattle.plane.specs.Line.{Pass, columns, rows, Rule, Piece, ix, lineStep, sampleStep, changed, lineAt, pieceAt, piece}
 use Rattle.plane.specs.Plane.{Plane, class, ruleOf, act, colsOf, rowsOf}
@@ -33,11 +33,6 @@ use Rattle.filter.proofs.Acts.{reads-is, act-visit, line-walked}
 use Rattle.filter.proofs.Rooms.{walkable}
 use Rattle.filter.proofs.Ranges.{in-range, stays}
 use Rattle.filter.proofs.Groups.{at-start, past-end}
-
--- what each step of a loop keeps, the loop does
-upTo-holds : {S : Type 0} (Q : S → Type 0) (f : ℕ → S → S) (n : ℕ) → ((i : ℕ) → i < n → (s : S) → Q s → Q (f i s)) → (s : S) → Q s → Q (upTo f n s)
-upTo-holds Q f zero h s q = q
-upTo-holds Q f (suc n) h s q = h n (omega arith) (upTo f n s) (upTo-holds Q f n (λ i l. h i (omega arith)) s q)
 
 -- ---- the plane's passes, and their length
 
