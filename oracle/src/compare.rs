@@ -82,9 +82,10 @@ impl Run<'_> {
         let part = self.part;
         let mut from = BufReader::with_capacity(BATCH, from);
         let mut tally = Tally::new(part);
-        let mut theirs = vec![0; part.sizes().1];
+        let mut theirs = vec![];
         for case in part.cases(self.count, self.seed) {
             let (number, ours) = (tally.cases(), part.answer(&case));
+            theirs.resize(ours.len(), 0);
             if from.read_exact(&mut theirs).is_err() {
                 let case = part.describe(&case, &[("expected", &ours)]);
                 let why = format!("the program ended or was silent for {PATIENCE:?}");
@@ -95,12 +96,10 @@ impl Run<'_> {
                 let case = part.describe(&case, &answers);
                 return Err(format!("case {number} differs:\n{case}"));
             }
-            tally.add(&part.cells(&case, &ours));
-            if tally.cases().is_multiple_of(1000) {
-                progress.send(tally.cases()).unwrap();
-            }
+            part.count(&case, &ours, &mut tally);
+            progress.send(tally.cases()).unwrap();
         }
-        match from.read(&mut theirs) {
+        match from.read(&mut [0]) {
             Ok(0) => Ok(tally),
             _ => Err("the program writes on after its last answer".into()),
         }

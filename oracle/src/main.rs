@@ -84,12 +84,16 @@ fn write(records: impl IntoIterator<Item = part::Record>) -> io::Result<()> {
 fn answers(part: &dyn Part) -> io::Result<()> {
     let mut cases = BufReader::with_capacity(BATCH, io::stdin().lock());
     let mut out = BufWriter::with_capacity(BATCH, io::stdout().lock());
-    let mut case = vec![0; part.sizes().0];
+    let start = part.sizes().0;
+    let mut case = vec![0; start];
     loop {
+        case.truncate(start);
         match cases.read(&mut case[..1])? {
             0 => return out.flush(),
             _ => cases.read_exact(&mut case[1..])?,
         }
+        case.resize(part.length(&case), 0);
+        cases.read_exact(&mut case[start..])?;
         out.write_all(&part.answer(&case))?;
     }
 }

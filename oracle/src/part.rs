@@ -1,4 +1,5 @@
 use crate::rng::Rng;
+use crate::tally::Tally;
 
 /// A case or an answer as FORMATS.md has it.
 pub type Record = Vec<u8>;
@@ -16,6 +17,8 @@ pub enum Least {
     Nothing,
     OneCase,
     Percent,
+    /// One percent of what the group holds.
+    Share,
 }
 
 impl Group {
@@ -36,6 +39,15 @@ impl Group {
         }
     }
 
+    /// For a group of which a case fills many cells.
+    pub const fn shared(name: &'static str, cells: &'static [&'static str]) -> Self {
+        Self {
+            name,
+            cells,
+            least: Least::Share,
+        }
+    }
+
     pub const fn counted(name: &'static str, cells: &'static [&'static str]) -> Self {
         Self {
             name,
@@ -49,8 +61,13 @@ impl Group {
 pub trait Part: Sync {
     fn name(&self) -> &'static str;
 
-    /// How many bytes a case and an answer have.
+    /// How many bytes a case and an answer have, or where that varies the start of each.
     fn sizes(&self) -> (usize, usize);
+
+    /// How many bytes the case has that starts so.
+    fn length(&self, _start: &[u8]) -> usize {
+        self.sizes().0
+    }
 
     /// Every case, if they are few.
     fn all(&self) -> Option<Vec<Record>> {
@@ -73,6 +90,11 @@ pub trait Part: Sync {
 
     /// The cell of each group that a case falls into.
     fn cells(&self, case: &[u8], answer: &[u8]) -> Vec<Option<usize>>;
+
+    /// Counts a case, which may fill several cells of a group.
+    fn count(&self, case: &[u8], answer: &[u8], tally: &mut Tally) {
+        tally.add(&self.cells(case, answer));
+    }
 
     /// The first `count` cases of a seed, or all cases there are.
     fn cases(&self, count: Count, seed: u64) -> Box<dyn Iterator<Item = Record> + '_> {

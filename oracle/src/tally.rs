@@ -27,6 +27,17 @@ impl Tally {
         }
     }
 
+    /// Counts a case by so many in each cell of each group.
+    pub fn add_many(&mut self, counts: &[Vec<u64>]) {
+        assert_eq!(counts.len(), self.groups.len());
+        self.cases += 1;
+        for (to, from) in self.counts.iter_mut().zip(counts) {
+            for (to, from) in to.iter_mut().zip(from) {
+                *to += from;
+            }
+        }
+    }
+
     pub fn cases(&self) -> u64 {
         self.cases
     }
@@ -47,6 +58,7 @@ impl Tally {
                 Least::Nothing => 0,
                 Least::OneCase => 1,
                 Least::Percent => self.cases.div_ceil(100),
+                Least::Share => counts.iter().sum::<u64>().div_ceil(100),
             };
             let cells = group.cells.iter().zip(counts);
             let few = cells.filter(move |(_, n)| **n < least);

@@ -1,3 +1,4 @@
+mod apply;
 mod levels;
 mod limits;
 mod line;
@@ -5,9 +6,10 @@ mod record;
 
 use crate::part::Part;
 
-pub const PARTS: [&dyn Part; 4] = [
+pub const PARTS: [&dyn Part; 5] = [
     &limits::Limits,
     &levels::Levels,
     &line::Line,
     &record::Recording,
+    &apply::Apply,
 ];

@@ -114,8 +114,8 @@ impl Case {
     }
 
     /// Whether the filter mask's tests are met, each by itself.
-    fn filter_mask(&self) -> [bool; 4] {
-        let (d, t) = (self.distances(), self.thresholds());
+    fn filter_mask(&self, t: &Thresholds) -> [bool; 4] {
+        let d = self.distances();
         [
             d.first <= t.limit,
             d.combined <= t.blimit,
@@ -125,8 +125,12 @@ impl Case {
     }
 
     pub fn kind(&self) -> Kind {
-        let (d, t) = (self.distances(), self.thresholds());
-        if self.level == 0 || self.filter_mask().contains(&false) {
+        self.kind_by(&self.thresholds())
+    }
+
+    pub fn kind_by(&self, t: &Thresholds) -> Kind {
+        let d = self.distances();
+        if self.level == 0 || self.filter_mask(t).contains(&false) {
             Kind::Kept
         } else if self.width == 4 || d.flat > t.one {
             if d.first > t.thresh {
@@ -146,7 +150,7 @@ impl Case {
     /// Where the outcome hangs on this test: 0 if it is just met, 1 if it is just missed.
     pub fn decides(&self, test: Test) -> Option<usize> {
         let (d, t) = (self.distances(), self.thresholds());
-        let mut others = self.filter_mask();
+        let mut others = self.filter_mask(&t);
         if let Some(own) = others.get_mut(test as usize) {
             *own = true;
         }

@@ -1,6 +1,6 @@
 //! One line of samples across an edge.
 
-mod case;
+pub mod case;
 mod filter;
 mod make;
 

@@ -1,14 +1,14 @@
 //! One call of a block recorder: levels, masks and contexts before and after.
 
-mod case;
+pub mod case;
 mod describe;
 mod fault;
 mod fixed;
 mod make;
-mod recorder;
+pub mod recorder;
 mod refusal;
 mod tally;
-mod tiling;
+pub mod tiling;
 
 use crate::part::{Group, Part, Record};
 use crate::rng::Rng;

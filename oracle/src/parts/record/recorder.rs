@@ -22,27 +22,37 @@ fn words(record: &Av1Filter) -> impl Iterator<Item = &RelaxedAtomic<u16>> {
     luma.as_flattened().iter().chain(chroma.as_flattened())
 }
 
+/// Whole records of masks.
+pub fn records(masks: &[u16]) -> Vec<Av1Filter> {
+    let record = |masks: &[u16]| {
+        let record = Av1Filter::default();
+        for (word, mask) in words(&record).zip(masks) {
+            word.set(*mask);
+        }
+        record
+    };
+    masks.chunks_exact(RECORD).map(record).collect()
+}
+
+/// Stores records at the start of masks.
+pub fn store(records: &[Av1Filter], masks: &mut [u16]) {
+    for (mask, word) in masks.iter_mut().zip(records.iter().flat_map(words)) {
+        *mask = word.get();
+    }
+}
+
 impl Recorder {
     /// Whole records of masks, and levels.
     pub fn new(masks: &[u16], levels: &[u8]) -> Self {
-        let record = |masks: &[u16]| {
-            let record = Av1Filter::default();
-            for (word, mask) in words(&record).zip(masks) {
-                word.set(*mask);
-            }
-            record
-        };
         Self {
-            records: masks.chunks_exact(RECORD).map(record).collect(),
+            records: records(masks),
             levels: DisjointMut::new(levels.to_vec()),
         }
     }
 
     /// Stores masks and levels at the start of these.
     pub fn store(self, masks: &mut [u16], levels: &mut [u8]) {
-        for (mask, word) in masks.iter_mut().zip(self.records.iter().flat_map(words)) {
-            *mask = word.get();
-        }
+        store(&self.records, masks);
         let from = self.levels.into_inner();
         levels[..from.len()].copy_from_slice(&from);
     }

@@ -1,4 +1,4 @@
-//! A block of a legal tiling of one tile, with memory as the blocks before it left it.
+//! Legal tilings: one block, with memory as the blocks before it left it; or a whole frame of tiles.
 
 use super::case::{tx_of, Block, Case, BLOCKS};
 use super::make;
@@ -6,6 +6,7 @@ use super::recorder::Recorder;
 use crate::rng::Rng;
 use crate::src::tables::dav1d_txfm_dimensions;
 use std::array::from_fn;
+use std::collections::HashMap;
 
 struct Tiling<'a> {
     rng: &'a mut Rng,
@@ -13,13 +14,15 @@ struct Tiling<'a> {
     frame: Block,
     /// The frame in units, rounded up to 8 samples: blocks cover it.
     covered: [u32; 2],
-    /// The unit whose block is the case.
-    target: [u32; 2],
+    /// The unit whose block is the case, if one is asked for.
+    target: Option<[u32; 2]>,
     /// A node is split once in so many, and else by chance.
     split: i32,
     recorder: Recorder,
     /// Above and left in luma, then in chroma.
-    contexts: [[u8; 160]; 4],
+    contexts: [Vec<u8>; 4],
+    /// The level values of segments, of which blocks have one; else each block has any.
+    segments: &'a [[u8; 64]],
 }
 
 /// A block at any unit, so large ones more often than small ones, and more at an odd frame's end.
@@ -41,10 +44,11 @@ pub fn tiled(rng: &mut Rng) -> Case {
     let mut tiling = Tiling {
         frame,
         covered,
-        target,
+        target: Some(target),
         split: rng.pick(&[1, 2, 2, 4]),
         recorder,
-        contexts: [[2; 160], [2; 160], [1; 160], [1; 160]],
+        contexts: contexts(&frame),
+        segments: &[],
         rng,
     };
     let block = tiling.superblocks(superblock);
@@ -58,6 +62,72 @@ pub fn tiled(rng: &mut Rng) -> Case {
         lent: make::lent(&block, rng),
         memory,
     }
+}
+
+/// Contexts as they start, with room for a block past the frame.
+fn contexts(frame: &Block) -> [Vec<u8>; 4] {
+    let across = frame.frame_units()[0] as usize + 32;
+    [(2, across), (2, 64), (1, across), (1, 64)].map(|(start, n)| vec![start; n])
+}
+
+/// What tile corrections ask for: of a superblock row of a tile the contexts at its right end, and of a
+/// row of tiles those at its lower end; in luma and in chroma.
+#[derive(Default)]
+pub struct Ends {
+    /// By the superblock column after the tile, and the superblock row.
+    pub right: HashMap<(u32, u32), [Vec<u8>; 2]>,
+    /// By the superblock row after the tiles.
+    pub lower: HashMap<u32, [Vec<u8>; 2]>,
+}
+
+/// Records all blocks of a frame. Tile starts are in superblocks, 0 among them; `superblock` is in units.
+pub fn whole(
+    rng: &mut Rng,
+    frame: Block,
+    superblock: u32,
+    starts: [&[u32]; 2],
+    segments: &[[u8; 64]],
+    masks: &mut [u16],
+    levels: &mut [u8],
+) -> Ends {
+    let mut tiling = Tiling {
+        frame,
+        covered: frame.frame_units().map(|n| n.next_multiple_of(2)),
+        target: None,
+        split: rng.pick(&[1, 2, 2, 4]),
+        recorder: Recorder::new(masks, levels),
+        contexts: contexts(&frame),
+        segments,
+        rng,
+    };
+    let mut ends = Ends::default();
+    let count = tiling.covered.map(|side| side.div_ceil(superblock));
+    let tiles = |axis: usize| {
+        let next = starts[axis].iter().skip(1).copied().chain([count[axis]]);
+        starts[axis].iter().copied().zip(next)
+    };
+    for (top, bottom) in tiles(1) {
+        tiling.contexts[0].fill(2);
+        tiling.contexts[2].fill(1);
+        for (first, last) in tiles(0) {
+            for row in top..bottom {
+                tiling.contexts[1].fill(2);
+                tiling.contexts[3].fill(1);
+                for column in first..last {
+                    tiling.node([column, row].map(|n| n * superblock), superblock);
+                }
+                let from = |ss: u32| ((row * superblock % 32) >> ss) as usize;
+                let [_, ss_ver] = frame.ss();
+                let luma = tiling.contexts[1][from(0)..].to_vec();
+                let chroma = tiling.contexts[3][from(ss_ver)..].to_vec();
+                ends.right.insert((last, row), [luma, chroma]);
+            }
+        }
+        let above = [0, 2].map(|n| tiling.contexts[n].clone());
+        ends.lower.insert(bottom, above);
+    }
+    tiling.recorder.store(masks, levels);
+    ends
 }
 
 /// A block's places in the contexts.
@@ -143,10 +213,13 @@ impl Tiling<'_> {
             return None;
         }
         let block = self.coded(place, units);
-        let covers = |axis| {
-            self.target[axis] < place[axis] + units[axis] && self.target[axis] >= place[axis]
+        let covers = |target: [u32; 2], axis: usize| {
+            target[axis] < place[axis] + units[axis] && target[axis] >= place[axis]
         };
-        if covers(0) && covers(1) {
+        if self
+            .target
+            .is_some_and(|unit| covers(unit, 0) && covers(unit, 1))
+        {
             return Some(block);
         }
         let mut at = places(&block).into_iter();
@@ -170,6 +243,9 @@ impl Tiling<'_> {
             |axis: usize| units[axis] == 1 && ss[axis] == 1 && place[axis].is_multiple_of(2);
         let has_pair = block.layout != 400 && !shares(0) && !shares(1);
         make::code(&mut block, has_pair, rng);
+        if !self.segments.is_empty() {
+            block.values = rng.pick(self.segments);
+        }
         if rng.once_in(8) {
             // Lossless.
             (block.tx, block.uvtx) = (0, 0);
