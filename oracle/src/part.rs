@@ -5,6 +5,7 @@ use crate::tally::Tally;
 pub type Record = Vec<u8>;
 
 /// A line of the tally: a case falls into one of the cells, or into none.
+#[derive(Clone, Copy)]
 pub struct Group {
     pub name: &'static str,
     pub cells: &'static [&'static str],

@@ -6,10 +6,11 @@ mod record;
 
 use crate::part::Part;
 
-pub const PARTS: [&dyn Part; 5] = [
+pub const PARTS: [&dyn Part; 6] = [
     &limits::Limits,
     &levels::Levels,
     &line::Line,
     &record::Recording,
-    &apply::Apply,
+    &apply::Apply(apply::Size::Small),
+    &apply::Apply(apply::Size::Large),
 ];

@@ -8,7 +8,7 @@ pub const DEPTHS: [u32; 3] = [8, 10, 12];
 
 /// A 128x128 record's words of masks: luma, then chroma.
 pub const RECORD: usize = 640;
-const LUMA: usize = 384;
+pub const LUMA: usize = 384;
 
 /// A case's start and a step's.
 pub const HEADER: usize = 160;

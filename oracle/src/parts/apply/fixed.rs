@@ -1,48 +1,65 @@
 //! The frames that the gate replays.
 
-use super::case::KINDS;
+use super::case::{Kind, Pass, KINDS};
 use super::make::{made_up, recorded, sized};
-use super::refusal::FAULTS;
+use super::refusal::{Above, Fault, FAULTS};
 use crate::part::Record;
 use crate::rng::Rng;
 
-/// Width, height, layout, whether samples are u16, depth, superblock, and whether masks are recorded.
-type Sort = (u32, u32, u32, bool, u32, u32, bool);
+/// Width, height, layout, superblock, the depth of u16 samples or none, base levels of chroma, and whether
+/// masks are recorded.
+type Sort = (u32, u32, u32, u32, Option<u32>, [u32; 2], bool);
 
-const SORTS: [Sort; 10] = [
-    (125, 118, 400, false, 8, 64, false),
-    (90, 101, 420, false, 8, 64, false),
-    (128, 128, 422, false, 8, 64, false),
-    (69, 127, 444, false, 8, 64, true),
-    (130, 67, 420, false, 8, 64, true),
-    (37, 128, 400, true, 12, 64, true),
-    (99, 122, 420, true, 10, 64, false),
-    (128, 77, 420, true, 12, 64, true),
-    (43, 50, 422, true, 8, 128, false),
-    (121, 71, 444, true, 10, 64, false),
+const SORTS: [Sort; 9] = [
+    (125, 118, 400, 64, None, [0, 0], false),
+    (90, 101, 420, 64, None, [63, 20], false),
+    (130, 67, 420, 64, None, [0, 41], true),
+    (128, 128, 422, 64, None, [0, 0], false),
+    (69, 127, 444, 64, None, [7, 63], true),
+    (128, 77, 400, 64, Some(12), [0, 0], true),
+    (99, 122, 420, 64, Some(10), [63, 1], false),
+    (43, 50, 422, 128, Some(8), [33, 0], false),
+    (121, 71, 444, 64, Some(12), [20, 50], false),
 ];
 
-/// In the first frames each call has every fault that it can have in front of it, and a store beside the
-/// limits of what it looks at.
+/// Whether a call of this kind can have a fault.
+fn can_have(kind: Kind, fault: Fault) -> bool {
+    use Fault::*;
+    match (kind, fault) {
+        (_, Layout | NoSide(_) | LongSide(_) | Superblock | ShortMasks | Row) => true,
+        (Kind::Filter(pass), Level(_, Above::Yes) | Sample(_, Above::Yes)) => pass == Pass::Rows,
+        (Kind::Filter(_), fault) => !matches!(fault, ShortContext(_) | ContextValue(_) | Start),
+        (_, ShortContext(_) | ContextValue(_)) => true,
+        (kind, fault) => kind == Kind::CorrectColumn && fault == Start,
+    }
+}
+
+/// Each kind of call has every fault that it can have in front of it somewhere, and each call a store
+/// beside the limits of what it looks at.
 pub fn fixed() -> Vec<Record> {
-    let mut left: Vec<_> = KINDS
+    let all = KINDS
         .into_iter()
-        .flat_map(|kind| (0..FAULTS.len()).map(move |fault| (kind, fault)))
+        .flat_map(|kind| (0..FAULTS.len()).map(move |fault| (kind, fault)));
+    let mut left: Vec<_> = all
+        .filter(|(kind, fault)| can_have(*kind, FAULTS[*fault].0))
         .collect();
-    let make = |(n, sort): (usize, Sort)| {
-        let (width, height, layout, is_wide, depth, superblock, is_recorded) = sort;
-        let rng = &mut Rng::new(7, n as u64);
+    let mut records = vec![];
+    for (n, sort) in SORTS.into_iter().enumerate() {
+        let (width, height, layout, superblock, depth, chroma, is_recorded) = sort;
+        let (rng, is_wide) = (&mut Rng::new(11, n as u64), depth.is_some());
         let mut call = sized([width, height], layout, is_wide, rng);
-        (call.depth, call.superblock) = (depth, superblock);
-        if layout != 400 && n != 2 {
-            call.chroma = [63, 20];
-        }
-        let mut frame = match is_recorded {
+        (call.superblock, call.chroma) = (superblock, chroma);
+        call.depth = depth.unwrap_or(8);
+        let frame = match is_recorded {
             true => recorded(call, is_wide, rng),
             false => made_up(call, is_wide, rng),
         };
-        let _ = &mut frame;
-        frame.all_faults(&mut left, rng).write()
-    };
-    SORTS.into_iter().enumerate().map(make).collect()
+        records.push(frame.all_faults(&mut left, rng).write());
+    }
+    let left: Vec<_> = left
+        .iter()
+        .map(|(kind, fault)| (kind, FAULTS[*fault].2))
+        .collect();
+    assert!(left.is_empty(), "no frame has {left:?}");
+    records
 }

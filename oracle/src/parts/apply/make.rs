@@ -1,6 +1,6 @@
 //! Frames: geometry, samples, levels, and masks that keep the gap rule, recorded or made up.
 
-use super::case::{Call, Grid, Kind, Lent, Memory, Pass, LAYOUTS, PASSES, RECORD};
+use super::case::{Call, Grid, Kind, Lent, Memory, Pass, LAYOUTS, LUMA, PASSES, RECORD};
 use crate::include::dav1d::headers::Rav1dFrameHeader;
 use crate::parts::record::{case::Block, tiling};
 use crate::rng::Rng;
@@ -124,11 +124,14 @@ fn roomy(mut call: Call, room: &Room, is_wide: bool, rng: &mut Rng) -> Call {
         call.lent.masks += rng
             .pick(&[0, 1, 9])
             .min(4 * RECORD as u32 - call.lent.masks);
-        if call.layout != 400 || rng.once_in(2) {
-            call.lent.planes = from_fn(|n| {
-                let room = if n == 0 { room.luma } else { chroma };
-                call.lent.planes[n] + up_to(9.min(room - call.lent.planes[n]), rng)
-            });
+        call.lent.planes = from_fn(|n| {
+            let room = if n == 0 { room.luma } else { chroma };
+            call.lent.planes[n] + up_to(9.min(room - call.lent.planes[n]), rng)
+        });
+        if !call.filters_chroma() {
+            // Nothing is asked of planes that are not filtered.
+            call.strides[1] = rng.pick(&[0, 1, 63, 1 << 58, u64::MAX]);
+            call.lent.planes[1..].fill(up_to(9, rng));
         }
     }
     call
@@ -281,11 +284,18 @@ fn set(grid: &Grid, masks: &mut [u16], pass: Pass, unit: [u32; 2], class: usize,
     }
 }
 
-/// Masks that keep the gap rule of every call.
+/// Masks that keep the gap rule of every call; in chroma that is not filtered, now and then anything.
 fn masks(call: &Call, starts: &[Vec<u32>; 2], to: &mut [u16], rng: &mut Rng) {
     for is_luma in [true, false] {
         let grid = call.grid(is_luma);
-        if !is_luma && (call.layout == 400 || !call.filters_chroma() && rng.once_in(2)) {
+        if !is_luma && !call.filters_chroma() {
+            let is_any = rng.once_in(2);
+            for word in to
+                .chunks_exact_mut(RECORD)
+                .flat_map(|record| &mut record[LUMA..])
+            {
+                *word = rng.next() as u16 * u16::from(is_any);
+            }
             continue;
         }
         let most = grid.classes() - 1;
@@ -327,7 +337,7 @@ fn unused(grid: &Grid, to: &mut [u16], rng: &mut Rng) {
 
 /// 0, and some more below the count.
 fn starts(count: u32, rng: &mut Rng) -> Vec<u32> {
-    let rare = rng.pick(&[1, 2, 2, 1000]);
+    let rare = rng.pick(&[1, 2, 2, 1000]) * if count > 8 { 4 } else { 1 };
     (0..count)
         .filter(|n| *n == 0 || rng.once_in(rare))
         .collect()
@@ -340,7 +350,7 @@ fn buffers(call: &Call, rng: &mut Rng) -> Memory {
         planes: call.lent.planes.map(|n| vec![0; n as usize]),
     };
     for (n, plane) in memory.planes.iter_mut().enumerate() {
-        if !plane.is_empty() {
+        if n == 0 || call.filters_chroma() {
             paint(plane, call.strides[n.min(1)] as usize, call.depth, rng);
         }
     }
@@ -461,5 +471,22 @@ pub fn frame(room: &Room, rng: &mut Rng) -> Frame {
     match rng.once_in(3) {
         true => recorded(call, is_wide, rng),
         false => made_up(call, is_wide, rng),
+    }
+}
+
+/// A frame of 1920 by 1080, layouts and sorts in turn.
+pub fn large(number: u64, rng: &mut Rng) -> Frame {
+    let layout = [420, 420, 422, 444, 400][(number % 5) as usize];
+    let is_wide = number / 5 % 2 == 1;
+    let mut call = sized([1920, 1080], layout, is_wide, rng);
+    if is_wide {
+        call.depth = [10, 12, 8][((number % 5 + number / 10) % 3) as usize];
+    }
+    if layout != 400 {
+        call.chroma = [up_to(62, rng) + 1, up_to(63, rng)];
+    }
+    match number % 3 {
+        0 => made_up(call, is_wide, rng),
+        _ => recorded(call, is_wide, rng),
     }
 }

@@ -17,8 +17,15 @@ use make::Room;
 use refusal::{Look, FAULTS};
 use tally::Counts;
 
-/// Frames of up to four records.
-pub struct Apply;
+/// Frames for a program in Rattle, which has no heap, or for one that links the archive.
+pub struct Apply(pub Size);
+
+pub enum Size {
+    /// Up to four records: part `apply`.
+    Small,
+    /// 1920 by 1080 samples: part `frames`.
+    Large,
+}
 
 /// What `replay_apply` has room for.
 const ROOM: Room = Room {
@@ -94,7 +101,10 @@ impl AtOnce {
 
 impl Part for Apply {
     fn name(&self) -> &'static str {
-        "apply"
+        match self.0 {
+            Size::Small => "apply",
+            Size::Large => "frames",
+        }
     }
 
     fn sizes(&self) -> (usize, usize) {
@@ -106,12 +116,17 @@ impl Part for Apply {
     }
 
     fn fixed(&self) -> Vec<Record> {
-        fixed::fixed()
+        match self.0 {
+            Size::Small => fixed::fixed(),
+            Size::Large => vec![],
+        }
     }
 
-    fn case(&self, _number: u64, rng: &mut Rng) -> Record {
-        let frame = make::frame(&ROOM, rng);
-        let rare = rng.pick(&[1, 2, 4]);
+    fn case(&self, number: u64, rng: &mut Rng) -> Record {
+        let (frame, rare) = match self.0 {
+            Size::Small => (make::frame(&ROOM, rng), rng.pick(&[1, 2, 4])),
+            Size::Large => (make::large(number, rng), 2),
+        };
         frame.script(rare, rng).write()
     }
 
@@ -126,7 +141,10 @@ impl Part for Apply {
     }
 
     fn groups(&self) -> &'static [Group] {
-        tally::GROUPS
+        match self.0 {
+            Size::Small => &tally::GROUPS,
+            Size::Large => &tally::LARGE,
+        }
     }
 
     fn cells(&self, _: &[u8], _: &[u8]) -> Vec<Option<usize>> {

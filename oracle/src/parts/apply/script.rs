@@ -136,7 +136,7 @@ impl Script {
     /// find them.
     fn spoilt(&mut self, call: &Call, rng: &mut Rng) -> (Call, Puts) {
         let number = rng.pick(match call.kind {
-            Kind::Filter(_) => &[2, 3, 4, 7, 8, 8, 9, 9, 10, 11, 12, 12],
+            Kind::Filter(_) => &[2, 3, 4, 7, 8, 8, 8, 8, 9, 9, 9, 10, 11, 11, 12, 12],
             _ => &[4, 6, 6, 6, 7, 10],
         });
         let faults: Vec<_> = FAULTS.iter().filter(|(_, its, _)| *its == number).collect();
@@ -152,7 +152,7 @@ impl Script {
                 fault => spoil(&mut near, fault, rng),
             }
             let found = self.fault_of(&near, &puts);
-            let is_near = found.is_none() && (near != *call || !puts.is_empty()) && rng.once_in(4);
+            let is_near = found.is_none() && (near != *call || !puts.is_empty()) && rng.once_in(8);
             if is_near || found.is_some_and(|n| FAULTS[n].0 == fault) {
                 break;
             }
@@ -287,7 +287,10 @@ fn spoil(call: &mut Call, fault: Fault, rng: &mut Rng) {
                 call.stride = rng.pick(&[1 << 32, 1 << 62, 1 << 50, u64::MAX, u64::MAX / 4 + 1])
             }
             false => {
-                let least = 4 * call.stride as u32 * call.frame_units()[1];
+                let least = call
+                    .stride
+                    .wrapping_mul(4 * u64::from(call.frame_units()[1]))
+                    as u32;
                 call.lent.levels = rng.pick(&less(least)).min(call.lent.levels);
             }
         },
@@ -345,9 +348,9 @@ fn level(call: &Call, memory: &Memory, rng: &mut Rng) -> Option<(Part, usize, u1
     ]);
     let any = up_to(wide - 1, rng);
     let x = rng.pick(&[0, wide - 1, wide - 1, wide, any]);
-    let at = 4 * (u64::from(y) * call.stride + u64::from(x)) + u64::from(byte);
+    let at = 4 * (u128::from(y) * u128::from(call.stride) + u128::from(x)) + u128::from(byte);
     let value = rng.pick(&[64, 64, 128, 255]);
-    (at < memory.levels.len() as u64).then_some((Part::Level, at as usize, value))
+    (at < memory.levels.len() as u128).then_some((Part::Level, at as usize, value))
 }
 
 /// A sample above the depth's highest, at the row's ends or the plane's.
@@ -367,10 +370,10 @@ fn sample(call: &Call, memory: &Memory, rng: &mut Rng) -> Option<(Part, usize, u
     ]);
     let any = up_to(wide - 1, rng);
     let x = rng.pick(&[0, wide - 1, wide - 1, wide, any]);
-    let at = u64::from(y) * call.strides[plane.min(1)] + u64::from(x);
+    let at = u128::from(y) * u128::from(call.strides[plane.min(1)]) + u128::from(x);
     let top = highest(call.depth);
     let value = rng.pick(&[top + 1, top + 1, 32768, u16::MAX]);
-    (at < memory.planes[plane].len() as u64).then_some((Part::Sample(plane), at as usize, value))
+    (at < memory.planes[plane].len() as u128).then_some((Part::Sample(plane), at as usize, value))
 }
 
 /// A bit beside an edge of the row.

@@ -2,7 +2,7 @@
 
 use super::case::{Call, Case, Grid, Kind, Memory, Pass, Step, KINDS, LAYOUTS, PASSES};
 use super::refusal::FAULTS;
-use crate::part::Group;
+use crate::part::{Group, Least};
 use crate::parts::line::case::{Case as Line, Thresholds};
 use std::array::from_fn;
 
@@ -18,7 +18,7 @@ const FAULT_NAMES: [&str; FAULTS.len()] = {
 
 pub const NUMBERS: [u8; 11] = [0, 2, 3, 4, 6, 7, 8, 9, 10, 11, 12];
 
-pub const GROUPS: &[Group] = &[
+pub static GROUPS: [Group; 21] = [
     Group::shared(
         "number, by calls",
         &["0", "2", "3", "4", "6", "7", "8", "9", "10", "11", "12"],
@@ -39,7 +39,7 @@ pub const GROUPS: &[Group] = &[
         "corrected tile starts, by frames",
         &["none", "across", "down", "both ways"],
     ),
-    Group::shared(
+    Group::filled(
         "frame's end, by frames",
         &["aligned", "cut across", "cut down", "cut both ways"],
     ),
@@ -71,6 +71,19 @@ pub const GROUPS: &[Group] = &[
         &["lowered", "as before", "set where none was"],
     ),
 ];
+
+/// For few frames of one size: lines and pieces alone must fill their cells.
+pub static LARGE: [Group; GROUPS.len()] = {
+    let mut groups = GROUPS;
+    let mut n = 0;
+    while n < groups.len() {
+        if n == 0 || !matches!(groups[n].least, Least::Share) {
+            groups[n].least = Least::Nothing;
+        }
+        n += 1;
+    }
+    groups
+};
 
 pub struct Counts {
     counts: Vec<Vec<u64>>,

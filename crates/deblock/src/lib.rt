@@ -1,0 +1,216 @@
+// The calls for C and Rust: a slice is a pointer and a length, a table a pointer.
+#[no_mangle]
+pub extern "C" fn deblock_correct_column(
+    masks: &mut [u16],
+    width: u32,
+    height: u32,
+    layout: u32,
+    superblock: u32,
+    row: u32,
+    start: u32,
+    left: &[u8],
+    left_uv: &[u8],
+) -> u32 {
+    correct::correct_column(
+        masks,
+        width,
+        height,
+        layout,
+        superblock,
+        row,
+        start,
+        left,
+        left_uv,
+    )
+}
+
+#[no_mangle]
+pub extern "C" fn deblock_correct_row(
+    masks: &mut [u16],
+    width: u32,
+    height: u32,
+    layout: u32,
+    superblock: u32,
+    row: u32,
+    above: &[u8],
+    above_uv: &[u8],
+) -> u32 {
+    correct::correct_row(
+        masks,
+        width,
+        height,
+        layout,
+        superblock,
+        row,
+        above,
+        above_uv,
+    )
+}
+
+#[no_mangle]
+pub extern "C" fn deblock_columns_8(
+    luma: &mut [u8],
+    luma_stride: usize,
+    u: &mut [u8],
+    v: &mut [u8],
+    chroma_stride: usize,
+    levels: &[u8],
+    stride: usize,
+    masks: &[u16],
+    e: &[u8; 64],
+    i: &[u8; 64],
+    width: u32,
+    height: u32,
+    layout: u32,
+    superblock: u32,
+    level_u: u32,
+    level_v: u32,
+    row: u32,
+) -> u32 {
+    apply::columns_8(
+        luma,
+        luma_stride,
+        u,
+        v,
+        chroma_stride,
+        levels,
+        stride,
+        masks,
+        e,
+        i,
+        width,
+        height,
+        layout,
+        superblock,
+        level_u,
+        level_v,
+        row,
+    )
+}
+
+#[no_mangle]
+pub extern "C" fn deblock_rows_8(
+    luma: &mut [u8],
+    luma_stride: usize,
+    u: &mut [u8],
+    v: &mut [u8],
+    chroma_stride: usize,
+    levels: &[u8],
+    stride: usize,
+    masks: &[u16],
+    e: &[u8; 64],
+    i: &[u8; 64],
+    width: u32,
+    height: u32,
+    layout: u32,
+    superblock: u32,
+    level_u: u32,
+    level_v: u32,
+    row: u32,
+) -> u32 {
+    apply::rows_8(
+        luma,
+        luma_stride,
+        u,
+        v,
+        chroma_stride,
+        levels,
+        stride,
+        masks,
+        e,
+        i,
+        width,
+        height,
+        layout,
+        superblock,
+        level_u,
+        level_v,
+        row,
+    )
+}
+
+#[no_mangle]
+pub extern "C" fn deblock_columns_16(
+    luma: &mut [u16],
+    luma_stride: usize,
+    u: &mut [u16],
+    v: &mut [u16],
+    chroma_stride: usize,
+    levels: &[u8],
+    stride: usize,
+    masks: &[u16],
+    e: &[u8; 64],
+    i: &[u8; 64],
+    depth: u32,
+    width: u32,
+    height: u32,
+    layout: u32,
+    superblock: u32,
+    level_u: u32,
+    level_v: u32,
+    row: u32,
+) -> u32 {
+    apply::columns_16(
+        luma,
+        luma_stride,
+        u,
+        v,
+        chroma_stride,
+        levels,
+        stride,
+        masks,
+        e,
+        i,
+        depth,
+        width,
+        height,
+        layout,
+        superblock,
+        level_u,
+        level_v,
+        row,
+    )
+}
+
+#[no_mangle]
+pub extern "C" fn deblock_rows_16(
+    luma: &mut [u16],
+    luma_stride: usize,
+    u: &mut [u16],
+    v: &mut [u16],
+    chroma_stride: usize,
+    levels: &[u8],
+    stride: usize,
+    masks: &[u16],
+    e: &[u8; 64],
+    i: &[u8; 64],
+    depth: u32,
+    width: u32,
+    height: u32,
+    layout: u32,
+    superblock: u32,
+    level_u: u32,
+    level_v: u32,
+    row: u32,
+) -> u32 {
+    apply::rows_16(
+        luma,
+        luma_stride,
+        u,
+        v,
+        chroma_stride,
+        levels,
+        stride,
+        masks,
+        e,
+        i,
+        depth,
+        width,
+        height,
+        layout,
+        superblock,
+        level_u,
+        level_v,
+        row,
+    )
+}

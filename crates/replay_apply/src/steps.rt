@@ -1,0 +1,368 @@
+// One step on a frame: a call of `correct` or `apply` with all its arguments, or a single store.
+use crate::memory;
+ghost use Prim.Native.Nat.{_+_, _≤_};
+
+// A step's 96 bytes, and the contexts that it lends.
+fn read_step() -> [u8; 96] {
+    let mut step = [0u8; 96];
+    memory::read(&mut step);
+    step
+}
+
+fn stride_at(step: &[u8; 96], at: usize) -> usize
+    requires { ⌜ at + 8 ≤ 96 ⌝ }
+{
+    let low = wire::u32_at(step, at) as usize;
+    let high = wire::u32_at(step, at + 4) as usize;
+    high * 4294967296 + low
+}
+
+fn put_byte(to: &mut [u8], at: u32, value: u32) {
+    let n = at as usize;
+    if n < to.len() {
+        to[n] = (value % 256) as u8;
+    }
+}
+
+fn put_word(to: &mut [u16], at: u32, value: u32) {
+    let n = at as usize;
+    if n < to.len() {
+        to[n] = (value % 65536) as u16;
+    }
+}
+
+fn corrected(step: &[u8; 96], context: &[u8], context_uv: &[u8], masks: &mut [u16]) -> u32 {
+    let width = wire::u32_at(step, 4);
+    let height = wire::u32_at(step, 8);
+    let layout = wire::u32_at(step, 12);
+    let superblock = wire::u32_at(step, 16);
+    let row = wire::u32_at(step, 20);
+    if wire::u32_at(step, 0) == 0 {
+        let start = wire::u32_at(step, 24);
+        return correct::correct_column(
+            masks,
+            width,
+            height,
+            layout,
+            superblock,
+            row,
+            start,
+            context,
+            context_uv,
+        );
+    }
+    correct::correct_row(
+        masks,
+        width,
+        height,
+        layout,
+        superblock,
+        row,
+        context,
+        context_uv,
+    )
+}
+
+// Reads the contexts that a step lends, and makes its correction.
+fn correction(step: &[u8; 96], masks: &mut [u16]) -> u32 {
+    let mut context = [0u8; 256];
+    let n = wire::u16_at(step, 60) as u32;
+    memory::read_bytes(n, &mut context);
+    let mut context_uv = [0u8; 256];
+    let n_uv = wire::u16_at(step, 62) as u32;
+    memory::read_bytes(n_uv, &mut context_uv);
+    let m = memory::words(wire::u32_at(step, 44), masks);
+    let a = memory::bytes(n, &context);
+    let b = memory::bytes(n_uv, &context_uv);
+    corrected(step, &context[..a], &context_uv[..b], &mut masks[..m])
+}
+
+fn columns_8(
+    step: &[u8; 96],
+    e: &[u8; 64],
+    i: &[u8; 64],
+    levels: &[u8],
+    masks: &[u16],
+    luma: &mut [u8],
+    u: &mut [u8],
+    v: &mut [u8],
+) -> u32 {
+    apply::columns_8(
+        luma,
+        stride_at(step, 72),
+        u,
+        v,
+        stride_at(step, 80),
+        levels,
+        stride_at(step, 64),
+        masks,
+        e,
+        i,
+        wire::u32_at(step, 4),
+        wire::u32_at(step, 8),
+        wire::u32_at(step, 12),
+        wire::u32_at(step, 16),
+        wire::u32_at(step, 32),
+        wire::u32_at(step, 36),
+        wire::u32_at(step, 20),
+    )
+}
+
+fn rows_8(
+    step: &[u8; 96],
+    e: &[u8; 64],
+    i: &[u8; 64],
+    levels: &[u8],
+    masks: &[u16],
+    luma: &mut [u8],
+    u: &mut [u8],
+    v: &mut [u8],
+) -> u32 {
+    apply::rows_8(
+        luma,
+        stride_at(step, 72),
+        u,
+        v,
+        stride_at(step, 80),
+        levels,
+        stride_at(step, 64),
+        masks,
+        e,
+        i,
+        wire::u32_at(step, 4),
+        wire::u32_at(step, 8),
+        wire::u32_at(step, 12),
+        wire::u32_at(step, 16),
+        wire::u32_at(step, 32),
+        wire::u32_at(step, 36),
+        wire::u32_at(step, 20),
+    )
+}
+
+// A pass, with as much of each lent as the step says.
+fn filtered_8(
+    step: &[u8; 96],
+    e: &[u8; 64],
+    i: &[u8; 64],
+    levels: &[u8],
+    masks: &[u16],
+    luma: &mut [u8],
+    u: &mut [u8],
+    v: &mut [u8],
+) -> u32 {
+    let l = memory::bytes(wire::u32_at(step, 40), levels);
+    let m = memory::words(wire::u32_at(step, 44), masks);
+    let a = memory::bytes(wire::u32_at(step, 48), luma);
+    let b = memory::bytes(wire::u32_at(step, 52), u);
+    let c = memory::bytes(wire::u32_at(step, 56), v);
+    if wire::u32_at(step, 0) == 2 {
+        return columns_8(
+            step,
+            e,
+            i,
+            &levels[..l],
+            &masks[..m],
+            &mut luma[..a],
+            &mut u[..b],
+            &mut v[..c],
+        );
+    }
+    rows_8(
+        step,
+        e,
+        i,
+        &levels[..l],
+        &masks[..m],
+        &mut luma[..a],
+        &mut u[..b],
+        &mut v[..c],
+    )
+}
+
+fn step_8(
+    e: &[u8; 64],
+    i: &[u8; 64],
+    levels: &mut [u8],
+    masks: &mut [u16],
+    luma: &mut [u8],
+    u: &mut [u8],
+    v: &mut [u8],
+) -> u32 {
+    let step = read_step();
+    let at = wire::u32_at(&step, 20);
+    let value = wire::u32_at(&step, 24);
+    match wire::u32_at(&step, 0) {
+        0 | 1 => return correction(&step, masks),
+        2 | 3 => return filtered_8(&step, e, i, levels, masks, luma, u, v),
+        4 => put_byte(levels, at, value),
+        5 => put_word(masks, at, value),
+        6 => put_byte(luma, at, value),
+        7 => put_byte(u, at, value),
+        _ => put_byte(v, at, value),
+    }
+    0
+}
+
+// So many steps; each writes its number.
+pub fn run_8(
+    count: u32,
+    e: &[u8; 64],
+    i: &[u8; 64],
+    levels: &mut [u8],
+    masks: &mut [u16],
+    luma: &mut [u8],
+    u: &mut [u8],
+    v: &mut [u8],
+) {
+    let mut left = count;
+    while 0 < left {
+        memory::write_number(step_8(e, i, levels, masks, luma, u, v));
+        left -= 1;
+    }
+}
+
+fn columns_16(
+    step: &[u8; 96],
+    e: &[u8; 64],
+    i: &[u8; 64],
+    levels: &[u8],
+    masks: &[u16],
+    luma: &mut [u16],
+    u: &mut [u16],
+    v: &mut [u16],
+) -> u32 {
+    apply::columns_16(
+        luma,
+        stride_at(step, 72),
+        u,
+        v,
+        stride_at(step, 80),
+        levels,
+        stride_at(step, 64),
+        masks,
+        e,
+        i,
+        wire::u32_at(step, 28),
+        wire::u32_at(step, 4),
+        wire::u32_at(step, 8),
+        wire::u32_at(step, 12),
+        wire::u32_at(step, 16),
+        wire::u32_at(step, 32),
+        wire::u32_at(step, 36),
+        wire::u32_at(step, 20),
+    )
+}
+
+fn rows_16(
+    step: &[u8; 96],
+    e: &[u8; 64],
+    i: &[u8; 64],
+    levels: &[u8],
+    masks: &[u16],
+    luma: &mut [u16],
+    u: &mut [u16],
+    v: &mut [u16],
+) -> u32 {
+    apply::rows_16(
+        luma,
+        stride_at(step, 72),
+        u,
+        v,
+        stride_at(step, 80),
+        levels,
+        stride_at(step, 64),
+        masks,
+        e,
+        i,
+        wire::u32_at(step, 28),
+        wire::u32_at(step, 4),
+        wire::u32_at(step, 8),
+        wire::u32_at(step, 12),
+        wire::u32_at(step, 16),
+        wire::u32_at(step, 32),
+        wire::u32_at(step, 36),
+        wire::u32_at(step, 20),
+    )
+}
+
+// A pass, with as much of each lent as the step says.
+fn filtered_16(
+    step: &[u8; 96],
+    e: &[u8; 64],
+    i: &[u8; 64],
+    levels: &[u8],
+    masks: &[u16],
+    luma: &mut [u16],
+    u: &mut [u16],
+    v: &mut [u16],
+) -> u32 {
+    let l = memory::bytes(wire::u32_at(step, 40), levels);
+    let m = memory::words(wire::u32_at(step, 44), masks);
+    let a = memory::words(wire::u32_at(step, 48), luma);
+    let b = memory::words(wire::u32_at(step, 52), u);
+    let c = memory::words(wire::u32_at(step, 56), v);
+    if wire::u32_at(step, 0) == 2 {
+        return columns_16(
+            step,
+            e,
+            i,
+            &levels[..l],
+            &masks[..m],
+            &mut luma[..a],
+            &mut u[..b],
+            &mut v[..c],
+        );
+    }
+    rows_16(
+        step,
+        e,
+        i,
+        &levels[..l],
+        &masks[..m],
+        &mut luma[..a],
+        &mut u[..b],
+        &mut v[..c],
+    )
+}
+
+fn step_16(
+    e: &[u8; 64],
+    i: &[u8; 64],
+    levels: &mut [u8],
+    masks: &mut [u16],
+    luma: &mut [u16],
+    u: &mut [u16],
+    v: &mut [u16],
+) -> u32 {
+    let step = read_step();
+    let at = wire::u32_at(&step, 20);
+    let value = wire::u32_at(&step, 24);
+    match wire::u32_at(&step, 0) {
+        0 | 1 => return correction(&step, masks),
+        2 | 3 => return filtered_16(&step, e, i, levels, masks, luma, u, v),
+        4 => put_byte(levels, at, value),
+        5 => put_word(masks, at, value),
+        6 => put_word(luma, at, value),
+        7 => put_word(u, at, value),
+        _ => put_word(v, at, value),
+    }
+    0
+}
+
+// So many steps; each writes its number.
+pub fn run_16(
+    count: u32,
+    e: &[u8; 64],
+    i: &[u8; 64],
+    levels: &mut [u8],
+    masks: &mut [u16],
+    luma: &mut [u16],
+    u: &mut [u16],
+    v: &mut [u16],
+) {
+    let mut left = count;
+    while 0 < left {
+        memory::write_number(step_16(e, i, levels, masks, luma, u, v));
+        left -= 1;
+    }
+}
