@@ -2,7 +2,7 @@
 
 use super::case::{Kind, Pass, KINDS};
 use super::make::{made_up, recorded, sized};
-use super::refusal::{Above, Fault, FAULTS};
+use super::refusal::{Above, Fault, FAULTS, PAIRS};
 use crate::part::Record;
 use crate::rng::Rng;
 
@@ -19,7 +19,7 @@ const SORTS: [Sort; 9] = [
     (128, 77, 400, 64, Some(12), [0, 0], true),
     (99, 122, 420, 64, Some(10), [63, 1], false),
     (43, 50, 422, 128, Some(8), [33, 0], false),
-    (121, 71, 444, 64, Some(12), [20, 50], false),
+    (127, 71, 444, 64, Some(12), [20, 50], false),
 ];
 
 /// Whether a call of this kind can have a fault.
@@ -34,6 +34,16 @@ fn can_have(kind: Kind, fault: Fault) -> bool {
     }
 }
 
+/// Of a fault of the gap rule all pairs; in chroma those one unit apart alone can be too close.
+fn pairs(fault: usize) -> impl Iterator<Item = usize> {
+    let (end, step) = match FAULTS[fault].0 {
+        Fault::Gap(0) => (PAIRS.len(), 1),
+        Fault::Gap(_) => (PAIRS.len(), 3),
+        _ => (1, 1),
+    };
+    (0..end).step_by(step)
+}
+
 /// Each kind of call has every fault that it can have in front of it somewhere, and each call a store
 /// beside the limits of what it looks at.
 pub fn fixed() -> Vec<Record> {
@@ -42,6 +52,7 @@ pub fn fixed() -> Vec<Record> {
         .flat_map(|kind| (0..FAULTS.len()).map(move |fault| (kind, fault)));
     let mut left: Vec<_> = all
         .filter(|(kind, fault)| can_have(*kind, FAULTS[*fault].0))
+        .flat_map(|(kind, fault)| pairs(fault).map(move |pair| (kind, fault, pair)))
         .collect();
     let mut records = vec![];
     for (n, sort) in SORTS.into_iter().enumerate() {
@@ -58,7 +69,7 @@ pub fn fixed() -> Vec<Record> {
     }
     let left: Vec<_> = left
         .iter()
-        .map(|(kind, fault)| (kind, FAULTS[*fault].2))
+        .map(|(kind, fault, pair)| (kind, FAULTS[*fault].2, pair))
         .collect();
     assert!(left.is_empty(), "no frame has {left:?}");
     records

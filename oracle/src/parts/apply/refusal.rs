@@ -208,20 +208,32 @@ impl Look<'_> {
         lines.any(|line| line.iter().any(|s| *s > highest))
     }
 
-    /// Whether a line of units of the row breaks the gap rule.
     fn gap_breaks(&self, pass: Pass, grid: &Grid) -> bool {
+        self.close_pair(pass, grid).is_some()
+    }
+
+    /// Of a fault of the gap rule the pair, else 0.
+    pub fn pair(&self, fault: usize) -> usize {
+        match (FAULTS[fault].0, self.call.kind) {
+            (Gap(n), Kind::Filter(pass)) => self.close_pair(pass, &self.call.grid(n == 0)).unwrap(),
+            _ => 0,
+        }
+    }
+
+    /// The first pair of neighbours on a line of units of the row that breaks the gap rule.
+    fn close_pair(&self, pass: Pass, grid: &Grid) -> Option<usize> {
         let masks = &self.memory.masks;
         let row = self.call.row;
         let rows = grid.rows(row);
         match pass {
-            Pass::Columns => rows.into_iter().any(|y| {
+            Pass::Columns => rows.into_iter().find_map(|y| {
                 let edge = |x: u32| match x < grid.units[0] {
                     true => grid.class(masks, pass, [x, y]),
                     false => None,
                 };
                 breaks(&edge, grid.records * grid.side(0))
             }),
-            Pass::Rows => (0..grid.units[0]).any(|x| {
+            Pass::Rows => (0..grid.units[0]).find_map(|x| {
                 let edge = |k: u32| match rows.start + k < rows.end {
                     true => grid.class(masks, pass, [x, rows.start + k]),
                     false => None,
@@ -278,23 +290,35 @@ impl Look<'_> {
     }
 }
 
-/// Whether two neighbours on a line are too close: marks are its start, its end and its edges.
-fn breaks(edge: &dyn Fn(u32) -> Option<usize>, end: u32) -> bool {
+/// What is too close, and at which distance: by the start of a line, two edges, and by its end.
+pub const PAIRS: [&str; 9] = [
+    "start 1", "start 2", "start 3", "edges 1", "edges 2", "edges 3", "end 1", "end 2", "end 3",
+];
+
+/// Two neighbours on a line that are too close: marks are its start, its end and its edges.
+fn breaks(edge: &dyn Fn(u32) -> Option<usize>, end: u32) -> Option<usize> {
     let marks: Vec<(u32, Option<usize>)> = (0..=end)
         .map(|u| (u, edge(u)))
         .filter(|(u, class)| *u == 0 || *u == end || class.is_some())
         .collect();
-    marks.windows(2).any(|pair| {
+    marks.windows(2).find_map(|pair| {
         let [(a, first), (b, second)] = pair else {
             unreachable!()
         };
-        let highest = match b - a {
+        let distance = b - a;
+        let highest = match distance {
             1 => 0,
             2 | 3 => 1,
             _ => 2,
         };
-        [first, second]
+        let is_high = [first, second]
             .iter()
-            .any(|class| class.is_some_and(|c| c > highest))
+            .any(|class| class.is_some_and(|c| c > highest));
+        let sort = match (first, *b == end) {
+            (None, _) => 0,
+            (_, false) => 1,
+            _ => 2,
+        };
+        is_high.then(|| 3 * sort + distance as usize - 1)
     })
 }

@@ -110,20 +110,24 @@ impl Script {
 
     /// The first fault of a call after stores, which are undone.
     fn fault_of(&mut self, call: &Call, puts: &Puts) -> Option<usize> {
+        self.look(call, puts, |look| look.fault())
+    }
+
+    /// Looks at a call after stores, which are undone.
+    fn look<T>(&mut self, call: &Call, puts: &Puts, ask: impl Fn(&Look) -> T) -> T {
         let before = self.before(puts);
         for (part, at, value) in puts {
             self.memory.put(*part, *at, *value);
         }
-        let look = Look {
+        let found = ask(&Look {
             call,
             is_wide: self.is_wide,
             memory: &self.memory,
-        };
-        let fault = look.fault();
+        });
         for (part, at, value) in before.into_iter().rev() {
             self.memory.put(part, at, value);
         }
-        fault
+        found
     }
 
     /// What stores would change.
@@ -136,7 +140,7 @@ impl Script {
     /// find them.
     fn spoilt(&mut self, call: &Call, rng: &mut Rng) -> (Call, Puts) {
         let number = rng.pick(match call.kind {
-            Kind::Filter(_) => &[2, 3, 4, 7, 8, 8, 8, 8, 9, 9, 9, 10, 11, 11, 12, 12],
+            Kind::Filter(_) => &[2, 3, 4, 7, 8, 8, 8, 8, 9, 9, 9, 10, 11, 11, 11, 11, 12, 12],
             _ => &[4, 6, 6, 6, 7, 10],
         });
         let faults: Vec<_> = FAULTS.iter().filter(|(_, its, _)| *its == number).collect();
@@ -147,7 +151,7 @@ impl Script {
             match fault {
                 Level(..) => puts.extend(level(call, &self.memory, rng)),
                 Sample(..) if self.is_wide => puts.extend(sample(call, &self.memory, rng)),
-                Gap(_) => puts.extend(close(call, &self.memory, rng)),
+                Gap(_) => puts = close(call, &self.memory, rng),
                 OutsideFrame(_) | OutsideHalf => puts.extend(stray(call, &self.memory, rng)),
                 fault => spoil(&mut near, fault, rng),
             }
@@ -211,17 +215,18 @@ impl Frame {
 
     /// The frame's calls, and in front of each all faults that a few tries find and `left` holds, which
     /// loses them, and some stores that 01 accepts.
-    pub fn all_faults(&self, left: &mut Vec<(Kind, usize)>, rng: &mut Rng) -> Case {
+    pub fn all_faults(&self, left: &mut Vec<(Kind, usize, usize)>, rng: &mut Rng) -> Case {
         let mut script = Script::new(self);
         for call in calls(self, rng) {
             for _ in 0..2000 {
                 let (near, puts) = script.spoilt(&call, rng);
-                if let Some(fault) = script.fault_of(&near, &puts) {
-                    let key = (call.kind, fault);
-                    if left.contains(&key) {
-                        left.retain(|other| *other != key);
-                        assert!(!script.call(near, puts));
-                    }
+                let found = script.look(&near, &puts, |look| {
+                    let fault = look.fault()?;
+                    Some((look.call.kind, fault, look.pair(fault)))
+                });
+                if found.is_some_and(|found| left.contains(&found)) {
+                    left.retain(|other| Some(*other) != found);
+                    assert!(!script.call(near, puts));
                 }
             }
             let mut near = (call.clone(), vec![]);
@@ -376,28 +381,52 @@ fn sample(call: &Call, memory: &Memory, rng: &mut Rng) -> Option<(Part, usize, u
     (at < memory.planes[plane].len() as u128).then_some((Part::Sample(plane), at as usize, value))
 }
 
-/// A bit beside an edge of the row.
-fn close(call: &Call, memory: &Memory, rng: &mut Rng) -> Option<(Part, usize, u16)> {
+/// Two neighbours on a line of the row, all other edges near them taken away: their classes just fit
+/// their distance, or one is too high.
+fn close(call: &Call, memory: &Memory, rng: &mut Rng) -> Puts {
     let pass = pass_of(call);
     let grid = call.grid(call.layout == 400 || rng.once_in(2));
     let rows = grid.rows(call.row);
-    for _ in 0..20 {
-        let mut unit = [
-            up_to(grid.units[0] - 1, rng),
-            rows.start + up_to(rows.end - rows.start - 1, rng),
-        ];
-        if grid.class(&memory.masks, pass, unit).is_none() {
-            continue;
-        }
-        let axis = pass as usize;
-        unit[axis] = unit[axis].wrapping_add_signed(rng.pick(&[-4, -3, -2, -1, 1, 2, 3, 4]));
-        let is_in = unit[0] < grid.units[0] && rows.contains(&unit[1]);
-        if is_in {
-            let (word, bit) = grid.bit(pass, up_to(grid.classes() as u32 - 1, rng) as usize, unit);
-            return Some((Part::Mask, word, memory.masks[word] | 1 << bit));
+    let high = rows.end - rows.start;
+    let (count, end, lines) = match pass {
+        Pass::Columns => (grid.units[0], grid.records * grid.side(0), high),
+        Pass::Rows => (high, grid.sb[1], grid.units[0]),
+    };
+    let line = up_to(lines - 1, rng);
+    let distance = rng.range(1, 4) as u32;
+    let first = match rng.range(0, 3) {
+        0 => 0,
+        1 | 2 => end.saturating_sub(distance),
+        _ => up_to(count - 1, rng),
+    };
+    let allowed = [0, 0, 1, 1, 2][distance as usize];
+    let mut class = || {
+        rng.pick(&[allowed, allowed, allowed + 1, 0])
+            .min(grid.classes() - 1)
+    };
+    let pair = [(first, class()), (first + distance, class())];
+    // The start need not have an edge.
+    let is_bare = first == 0 && rng.once_in(2);
+    let mut puts = vec![];
+    for place in first.saturating_sub(4)..count.min(first + distance + 5) {
+        let edge = pair
+            .iter()
+            .skip(is_bare.into())
+            .find(|(at, _)| *at == place);
+        let unit = match pass {
+            Pass::Columns => [place, rows.start + line],
+            Pass::Rows => [line, rows.start + place],
+        };
+        for class in 0..grid.classes() {
+            let (word, bit) = grid.bit(pass, class, unit);
+            let is_set = edge.is_some_and(|(_, its)| *its == class);
+            let value = memory.masks[word] & !(1 << bit) | u16::from(is_set) << bit;
+            if value != memory.masks[word] {
+                puts.push((Part::Mask, word, value));
+            }
         }
     }
-    None
+    puts
 }
 
 /// A bit anywhere in the row's records, mostly just past the frame, the row or a half.

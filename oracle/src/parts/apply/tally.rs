@@ -1,7 +1,7 @@
 //! What a run shows, counted by calls, edge pieces and lines.
 
 use super::case::{Call, Case, Grid, Kind, Memory, Pass, Step, KINDS, LAYOUTS, PASSES};
-use super::refusal::FAULTS;
+use super::refusal::{Fault, Look, FAULTS, PAIRS};
 use crate::part::{Group, Least};
 use crate::parts::line::case::{Case as Line, Thresholds};
 use std::array::from_fn;
@@ -18,12 +18,13 @@ const FAULT_NAMES: [&str; FAULTS.len()] = {
 
 pub const NUMBERS: [u8; 11] = [0, 2, 3, 4, 6, 7, 8, 9, 10, 11, 12];
 
-pub static GROUPS: [Group; 21] = [
+pub static GROUPS: [Group; 22] = [
     Group::shared(
         "number, by calls",
         &["0", "2", "3", "4", "6", "7", "8", "9", "10", "11", "12"],
     ),
     Group::not_empty("fault, by calls", &FAULT_NAMES),
+    Group::not_empty("gap too small, by calls", &PAIRS),
     Group::shared(
         "accepted calls",
         &["correct column", "correct row", "columns", "rows"],
@@ -117,6 +118,14 @@ impl Counts {
         self.add("number, by calls", cell);
         if let Some(fault) = fault {
             self.add("fault, by calls", fault);
+            if let Fault::Gap(_) = FAULTS[fault].0 {
+                let look = Look {
+                    call,
+                    is_wide: case.is_wide,
+                    memory: before,
+                };
+                self.add("gap too small, by calls", look.pair(fault));
+            }
             return;
         }
         let kind = KINDS.iter().position(|kind| *kind == call.kind).unwrap();
