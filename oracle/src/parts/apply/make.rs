@@ -335,12 +335,11 @@ fn unused(grid: &Grid, to: &mut [u16], rng: &mut Rng) {
     }
 }
 
-/// 0, and some more below the count.
+/// 0, and some more below the count, at most 64.
 fn starts(count: u32, rng: &mut Rng) -> Vec<u32> {
     let rare = rng.pick(&[1, 2, 2, 1000]) * if count > 8 { 4 } else { 1 };
-    (0..count)
-        .filter(|n| *n == 0 || rng.once_in(rare))
-        .collect()
+    let starts = (0..count).filter(|n| *n == 0 || rng.once_in(rare));
+    starts.take(64).collect()
 }
 
 fn buffers(call: &Call, rng: &mut Rng) -> Memory {
@@ -474,11 +473,17 @@ pub fn frame(room: &Room, rng: &mut Rng) -> Frame {
     }
 }
 
-/// A frame of 1920 by 1080, layouts and sorts in turn.
+/// A frame of 1920 by 1080, layouts and sorts in turn; of ten, two have the greatest side.
 pub fn large(number: u64, rng: &mut Rng) -> Frame {
     let layout = [420, 420, 422, 444, 400][(number % 5) as usize];
     let is_wide = number / 5 % 2 == 1;
-    let mut call = sized([1920, 1080], layout, is_wide, rng);
+    let short = up_to(127, rng) + 1;
+    let sides = match number % 10 {
+        6 => [16384 - up_to(3, rng), short],
+        7 => [short, 16384 - up_to(3, rng)],
+        _ => [1920, 1080],
+    };
+    let mut call = sized(sides, layout, is_wide, rng);
     if is_wide {
         call.depth = [10, 12, 8][((number % 5 + number / 10) % 3) as usize];
     }
