@@ -77,7 +77,7 @@ fn correction(step: &[u8; 96], masks: &mut [u16]) -> u32 {
     corrected(step, &context[..a], &context_uv[..b], &mut masks[..m])
 }
 
-fn columns_8(
+fn pass_8(
     step: &[u8; 96],
     e: &[u8; 64],
     i: &[u8; 64],
@@ -87,55 +87,55 @@ fn columns_8(
     u: &mut [u8],
     v: &mut [u8],
 ) -> u32 {
-    apply::columns_8(
-        luma,
-        stride_at(step, 72),
-        u,
-        v,
-        stride_at(step, 80),
-        levels,
-        stride_at(step, 64),
-        masks,
-        e,
-        i,
-        wire::u32_at(step, 4),
-        wire::u32_at(step, 8),
-        wire::u32_at(step, 12),
-        wire::u32_at(step, 16),
-        wire::u32_at(step, 32),
-        wire::u32_at(step, 36),
-        wire::u32_at(step, 20),
-    )
-}
-
-fn rows_8(
-    step: &[u8; 96],
-    e: &[u8; 64],
-    i: &[u8; 64],
-    levels: &[u8],
-    masks: &[u16],
-    luma: &mut [u8],
-    u: &mut [u8],
-    v: &mut [u8],
-) -> u32 {
+    let width = wire::u32_at(step, 4);
+    let height = wire::u32_at(step, 8);
+    let layout = wire::u32_at(step, 12);
+    let superblock = wire::u32_at(step, 16);
+    let row = wire::u32_at(step, 20);
+    let level_u = wire::u32_at(step, 32);
+    let level_v = wire::u32_at(step, 36);
+    let stride = stride_at(step, 64);
+    let luma_stride = stride_at(step, 72);
+    let chroma_stride = stride_at(step, 80);
+    if wire::u32_at(step, 0) == 2 {
+        return apply::columns_8(
+            luma,
+            luma_stride,
+            u,
+            v,
+            chroma_stride,
+            levels,
+            stride,
+            masks,
+            e,
+            i,
+            width,
+            height,
+            layout,
+            superblock,
+            level_u,
+            level_v,
+            row,
+        );
+    }
     apply::rows_8(
         luma,
-        stride_at(step, 72),
+        luma_stride,
         u,
         v,
-        stride_at(step, 80),
+        chroma_stride,
         levels,
-        stride_at(step, 64),
+        stride,
         masks,
         e,
         i,
-        wire::u32_at(step, 4),
-        wire::u32_at(step, 8),
-        wire::u32_at(step, 12),
-        wire::u32_at(step, 16),
-        wire::u32_at(step, 32),
-        wire::u32_at(step, 36),
-        wire::u32_at(step, 20),
+        width,
+        height,
+        layout,
+        superblock,
+        level_u,
+        level_v,
+        row,
     )
 }
 
@@ -155,19 +155,7 @@ fn filtered_8(
     let a = memory::bytes(wire::u32_at(step, 48), luma);
     let b = memory::bytes(wire::u32_at(step, 52), u);
     let c = memory::bytes(wire::u32_at(step, 56), v);
-    if wire::u32_at(step, 0) == 2 {
-        return columns_8(
-            step,
-            e,
-            i,
-            &levels[..l],
-            &masks[..m],
-            &mut luma[..a],
-            &mut u[..b],
-            &mut v[..c],
-        );
-    }
-    rows_8(
+    pass_8(
         step,
         e,
         i,
@@ -221,7 +209,7 @@ pub fn run_8(
     }
 }
 
-fn columns_16(
+fn pass_16(
     step: &[u8; 96],
     e: &[u8; 64],
     i: &[u8; 64],
@@ -231,57 +219,58 @@ fn columns_16(
     u: &mut [u16],
     v: &mut [u16],
 ) -> u32 {
-    apply::columns_16(
-        luma,
-        stride_at(step, 72),
-        u,
-        v,
-        stride_at(step, 80),
-        levels,
-        stride_at(step, 64),
-        masks,
-        e,
-        i,
-        wire::u32_at(step, 28),
-        wire::u32_at(step, 4),
-        wire::u32_at(step, 8),
-        wire::u32_at(step, 12),
-        wire::u32_at(step, 16),
-        wire::u32_at(step, 32),
-        wire::u32_at(step, 36),
-        wire::u32_at(step, 20),
-    )
-}
-
-fn rows_16(
-    step: &[u8; 96],
-    e: &[u8; 64],
-    i: &[u8; 64],
-    levels: &[u8],
-    masks: &[u16],
-    luma: &mut [u16],
-    u: &mut [u16],
-    v: &mut [u16],
-) -> u32 {
+    let width = wire::u32_at(step, 4);
+    let height = wire::u32_at(step, 8);
+    let layout = wire::u32_at(step, 12);
+    let superblock = wire::u32_at(step, 16);
+    let row = wire::u32_at(step, 20);
+    let depth = wire::u32_at(step, 28);
+    let level_u = wire::u32_at(step, 32);
+    let level_v = wire::u32_at(step, 36);
+    let stride = stride_at(step, 64);
+    let luma_stride = stride_at(step, 72);
+    let chroma_stride = stride_at(step, 80);
+    if wire::u32_at(step, 0) == 2 {
+        return apply::columns_16(
+            luma,
+            luma_stride,
+            u,
+            v,
+            chroma_stride,
+            levels,
+            stride,
+            masks,
+            e,
+            i,
+            depth,
+            width,
+            height,
+            layout,
+            superblock,
+            level_u,
+            level_v,
+            row,
+        );
+    }
     apply::rows_16(
         luma,
-        stride_at(step, 72),
+        luma_stride,
         u,
         v,
-        stride_at(step, 80),
+        chroma_stride,
         levels,
-        stride_at(step, 64),
+        stride,
         masks,
         e,
         i,
-        wire::u32_at(step, 28),
-        wire::u32_at(step, 4),
-        wire::u32_at(step, 8),
-        wire::u32_at(step, 12),
-        wire::u32_at(step, 16),
-        wire::u32_at(step, 32),
-        wire::u32_at(step, 36),
-        wire::u32_at(step, 20),
+        depth,
+        width,
+        height,
+        layout,
+        superblock,
+        level_u,
+        level_v,
+        row,
     )
 }
 
@@ -301,19 +290,7 @@ fn filtered_16(
     let a = memory::words(wire::u32_at(step, 48), luma);
     let b = memory::words(wire::u32_at(step, 52), u);
     let c = memory::words(wire::u32_at(step, 56), v);
-    if wire::u32_at(step, 0) == 2 {
-        return columns_16(
-            step,
-            e,
-            i,
-            &levels[..l],
-            &masks[..m],
-            &mut luma[..a],
-            &mut u[..b],
-            &mut v[..c],
-        );
-    }
-    rows_16(
+    pass_16(
         step,
         e,
         i,
