@@ -84,7 +84,7 @@ fn mask_at(
 {
     let groups = units::frame::records_along(w4);
     let row = gap::lines::record_row(sb4, k);
-    let start = gap::walk::record_start(luma, pass, row * groups + g);
+    let start = gap::track::record_start(luma, pass, row * groups + g);
     start + step_of(luma) * unit
 }
 

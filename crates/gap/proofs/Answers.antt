@@ -10,7 +10,7 @@ use Rattle.loops.proofs.Anys.{any-nil, any-same, any-or, any-swap}
 use Rattle.bits.specs.Bit.{bit, hasBit}
 use Rattle.bits.proofs.Bits.{bit-le, bit-not, hasBit-0, hasBit-1, hasBit-or, hasBit-and, hasBit-nil}
 use Rattle.bits.proofs.Words.{word-some, has-orBelow}
-use Rattle.gap.specs.declared.walk.Track.{Track}
+use Rattle.gap.specs.declared.track.Track.{Track}
 use Rattle.gap.specs.Line.{lineBroken}
 use Rattle.gap.specs.Track.{closeT, cut, past, track}
 use Rattle.gap.proofs.Slices.{lineOf, gap-words}

@@ -8,7 +8,7 @@ use native.Mathlib.Omega.{arith}
 use Rattle.loops.proofs.Lists.{prod-le}
 use Rattle.units.specs.Frame.{records}
 use Rattle.units.specs.Units.{chromaUnit}
-use Rattle.gap.specs.declared.walk.Track.{Track}
+use Rattle.gap.specs.declared.track.Track.{Track}
 use Rattle.edges.specs.Edges.{chromaGrid, Proper}
 use Rattle.gap.specs.Fits.{MasksFit}
 use Rattle.gap.specs.Lines.{recordRow}

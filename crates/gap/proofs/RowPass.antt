@@ -19,7 +19,7 @@ use Rattle.bits.proofs.Bits.{hasBit-ones}
 use Rattle.plane.specs.Line.{columns, rows}
 use Rattle.units.specs.Frame.{records}
 use Rattle.gap.specs.declared.Both.{Both}
-use Rattle.gap.specs.declared.walk.Track.{Track}
+use Rattle.gap.specs.declared.track.Track.{Track}
 use Rattle.edges.specs.Edges.{Grid, unitsOf, side, half, classes, wordIn, edgeBit, highest, edge, Proper}
 use Rattle.gap.specs.Line.{lineBroken}
 use Rattle.gap.specs.Lines.{lineBit, lineWord, inRecord, recordRow, firstLine, rowUnits}

@@ -13,7 +13,7 @@ use borrow.Author.Tests.{eq-eqb, ne-eqb, lt-ltb, le-ltb}
 use Rattle.loops.proofs.Runs.{upTo-again}
 use Rattle.bits.specs.Word.{orBelow}
 use Rattle.bits.proofs.Words.{or-none, or-more}
-use Rattle.gap.specs.declared.walk.Track.{Track}
+use Rattle.gap.specs.declared.track.Track.{Track}
 use Rattle.gap.specs.Track.{clashW, classWord, startT, stepT, unitT, runT, partT, closeT, cut, past, track}
 use Rattle.gap.proofs.Slices.{prevW, atW, bound, oneW, markW, badW}
 

@@ -24,7 +24,7 @@ use Rattle.loops.specs.Run.{upTo}
 use Rattle.units.specs.Frame.{records}
 use Rattle.units.specs.Units.{chromaUnit, chromaUnits}
 use Rattle.gap.specs.declared.Both.{Both}
-use Rattle.gap.specs.declared.walk.Track.{Track}
+use Rattle.gap.specs.declared.track.Track.{Track}
 use Rattle.gap.specs.Lines.{recordRow, firstLine, rowUnits}
 
 unfoldable pub wordAt : List ℕ → ℕ → ℕ

@@ -1,9 +1,9 @@
 // Numbers 11 and 12: what may be filtered, 32 lines of units at once.
 pub mod lines;
-pub mod walk;
+pub mod track;
 
+use track::Track;
 use units::LumaUnit;
-use walk::Track;
 ghost use mathlib.Core.Path.{_≡_};
 ghost use mathlib.Core.Logic.{_⊎_};
 ghost use Prim.Native.Nat.{_+_, _*_, _/_, _%_, _^_, _≤_, _<_};
@@ -29,7 +29,7 @@ fn answer(t: Track, row: u32, live: u32) -> Both
     let all = t.all;
     let past = t.past;
     let out = (all & (row & !live) | past & row) != 0;
-    let gap = live & walk::close(t) != 0;
+    let gap = live & track::close(t) != 0;
     Both { gap, out }
 }
 
@@ -46,10 +46,10 @@ fn columns_walk(
     ensures { λ r. ⌜ r ≡ track (columnWords (now (masks .entry)) luma base (32 / 2 ^ ss)) wide (groups * (32 / 2 ^ ss)) ⌝ }
 {
     let side = 32 >> ss;
-    let mut t = walk::start();
+    let mut t = track::start();
     for g in 0..groups {
         let n = lines::in_record(side, wide, g);
-        t = walk::part(masks, luma, base + 640 * g, 0, n, side, t);
+        t = track::part(masks, luma, base + 640 * g, 0, n, side, t);
     }
     t
 }
@@ -68,7 +68,7 @@ fn columns_track(
 {
     let groups = units::frame::records_along(w4);
     let wide = units::chroma_units(w4, ss);
-    let base = walk::record_start(luma, 0, lines::record_row(sb4, k) * groups);
+    let base = track::record_start(luma, 0, lines::record_row(sb4, k) * groups);
     columns_walk(masks, luma, base, ss, wide.0, groups)
 }
 
@@ -125,11 +125,11 @@ fn rows_track(
     ensures { λ r. ⌜ r ≡ rowTrack (now (masks .entry)) luma ss (w4 .0) (h4 .0) (sb4 .0) k g ⌝ }
 {
     let groups = units::frame::records_along(w4);
-    let at = walk::record_start(luma, 1, lines::record_row(sb4, k) * groups + g);
+    let at = track::record_start(luma, 1, lines::record_row(sb4, k) * groups + g);
     let first = lines::first_line(ss, sb4, k);
     let n = lines::row_units(ss, h4, sb4, k);
     let sb = units::chroma_unit(sb4, ss);
-    walk::part(masks, luma, at, first, n, sb.0, walk::start())
+    track::part(masks, luma, at, first, n, sb.0, track::start())
 }
 
 // The bits of the lines of record g.

@@ -1,8 +1,8 @@
 -- `unit` meets its contract, in the frame and past it.
 use borrow.Author.Needs.{needs}
 use Rattle.gap.specs.Track.{unitT}
-use Rattle.gap.proofs.walk.unit.Statement.{statement}
-use Rattle.gap.proofs.walk.unit.Tie as tie
+use Rattle.gap.proofs.track.unit.Statement.{statement}
+use Rattle.gap.proofs.track.unit.Tie as tie
 
 step-requires : tie.Need-step-requires
 step-requires c κs = search needs

@@ -1,8 +1,8 @@
 -- `step` meets its contract: `stepT`, field by field.
 use borrow.Author.Needs.{needs}
 use Rattle.gap.proofs.Walks.{step-make}
-use Rattle.gap.proofs.walk.step.Statement.{statement}
-use Rattle.gap.proofs.walk.step.Tie as tie
+use Rattle.gap.proofs.track.step.Statement.{statement}
+use Rattle.gap.proofs.track.step.Tie as tie
 
 clash-requires : tie.Need-clash-requires
 clash-requires c κs = search needs

@@ -1,8 +1,8 @@
 -- `word` meets its contract: `wordAt` of the two halves.
 use borrow.Author.Needs.{needs}
 use Rattle.gap.specs.Track.{wordAt}
-use Rattle.gap.proofs.walk.word.Statement.{statement}
-use Rattle.gap.proofs.walk.word.Tie as tie
+use Rattle.gap.proofs.track.word.Statement.{statement}
+use Rattle.gap.proofs.track.word.Tie as tie
 
 mul-word : tie.Need-mul-word
 mul-word c = search needs

@@ -1,8 +1,8 @@
 -- `start` meets its contract: `startT` is its own literal.
 use mathlib.Core.Path.{refl}
 use Rattle.gap.specs.Track.{startT}
-use Rattle.gap.proofs.walk.start.Statement.{statement}
-use Rattle.gap.proofs.walk.start.Tie as tie
+use Rattle.gap.proofs.track.start.Statement.{statement}
+use Rattle.gap.proofs.track.start.Tie as tie
 
 returns : tie.Need-returns
 unfolding startT

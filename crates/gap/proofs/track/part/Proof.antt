@@ -6,8 +6,8 @@ use native.Mathlib.Omega.{arith}
 use borrow.Author.Needs.{needs}
 use Rattle.gap.specs.Track.{runT, partT}
 use Rattle.gap.proofs.Cells.{few-units, fewer-units}
-use Rattle.gap.proofs.walk.part.Statement.{statement}
-use Rattle.gap.proofs.walk.part.Tie as tie
+use Rattle.gap.proofs.track.part.Statement.{statement}
+use Rattle.gap.proofs.track.part.Tie as tie
 
 chunk-requires : tie.Need-chunk-requires
 chunk-requires c κs = let a = c .before .args in fewer-units (a .luma) (a .at) (a .from + a .n) (a .from + a .end) _ (omega arith) (c .before .pre .0)

@@ -1,8 +1,8 @@
 -- `clash` meets its contract: `clashW` is its own expression.
 use mathlib.Core.Path.{refl}
 use Rattle.gap.specs.Track.{clashW}
-use Rattle.gap.proofs.walk.clash.Statement.{statement}
-use Rattle.gap.proofs.walk.clash.Tie as tie
+use Rattle.gap.proofs.track.clash.Statement.{statement}
+use Rattle.gap.proofs.track.clash.Tie as tie
 
 returns : tie.Need-returns
 unfolding clashW

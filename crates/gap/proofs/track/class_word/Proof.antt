@@ -3,8 +3,8 @@ use mathlib.Core.Path.{_∙_}
 use native.Mathlib.Omega.{arith}
 use borrow.Author.Needs.{needs}
 use Rattle.gap.proofs.Cells.{luma-in, chroma-in, luma-word, chroma-word, chroma-none}
-use Rattle.gap.proofs.walk.class_word.Statement.{statement}
-use Rattle.gap.proofs.walk.class_word.Tie as tie
+use Rattle.gap.proofs.track.class_word.Statement.{statement}
+use Rattle.gap.proofs.track.class_word.Tie as tie
 
 mul-word : tie.Need-mul-word
 mul-word c =

@@ -6,8 +6,8 @@ use borrow.Author.Needs.{needs}
 use Rattle.gap.specs.Track.{runT}
 use Rattle.gap.proofs.Walks.{run-more}
 use Rattle.gap.proofs.Cells.{unit-in, few-units}
-use Rattle.gap.proofs.walk.chunk.Statement.{statement}
-use Rattle.gap.proofs.walk.chunk.Tie as tie
+use Rattle.gap.proofs.track.chunk.Statement.{statement}
+use Rattle.gap.proofs.track.chunk.Tie as tie
 
 abbrev Inv-loop : tie.InvT-loop
 Inv-loop masks luma inside at from m t₀ i₀ t i = (i ≤ m) × (t ≡ runT masks luma inside at from i t₀)

@@ -1,8 +1,8 @@
 -- `record_start` meets its contract, by the kind of plane.
 use borrow.Author.Needs.{needs}
 use Rattle.gap.proofs.Cells.{luma-start, chroma-start}
-use Rattle.gap.proofs.walk.record_start.Statement.{statement}
-use Rattle.gap.proofs.walk.record_start.Tie as tie
+use Rattle.gap.proofs.track.record_start.Statement.{statement}
+use Rattle.gap.proofs.track.record_start.Tie as tie
 
 mul-result : tie.Need-mul-result
 mul-result c = search needs

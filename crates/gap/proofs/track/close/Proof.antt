@@ -3,8 +3,8 @@ use mathlib.Core.Path.{ap}
 use lib.Bits.{bitOr}
 use borrow.Author.Needs.{needs}
 use Rattle.gap.specs.Track.{closeT}
-use Rattle.gap.proofs.walk.close.Statement.{statement}
-use Rattle.gap.proofs.walk.close.Tie as tie
+use Rattle.gap.proofs.track.close.Statement.{statement}
+use Rattle.gap.proofs.track.close.Tie as tie
 
 clash-requires : tie.Need-clash-requires
 clash-requires c κs = search needs
