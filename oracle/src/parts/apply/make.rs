@@ -45,7 +45,7 @@ fn geometry(room: &Room, is_wide: bool, rng: &mut Rng) -> Call {
     loop {
         let few = rng.pick(&[[1, 1], [1, 1], [2, 1], [1, 2]]);
         let many = rng.pick(&[[2, 2], [2, 2], [3, 1], [1, 3], [4, 1], [1, 4]]);
-        let records = rng.pick(&[few, few, few, many]);
+        let records = rng.pick(&[few, few, many, many, many]);
         let less = records.map(|_| up_to(31, rng) * up_to(3, rng).min(1));
         let units: [u32; 2] = from_fn(|axis| 32 * records[axis] - less[axis]);
         let frame = units.map(|n| 4 * n - up_to(3, rng) * up_to(1, rng));
