@@ -1,4 +1,9 @@
 // The calls for C and Rust: a slice is a pointer and a length, a table a pointer.
+ghost use mathlib.Core.Bool.{true, false};
+ghost use Rattle.checks.specs.Call.{lent};
+ghost use Rattle.apply.specs.Apply.{limits, three, callOf, FilterAnswer};
+ghost use Rattle.correct.specs.Answer.{columnOf, rowOf, CorrectAnswer};
+
 #[no_mangle]
 pub extern "C" fn deblock_correct_column(
     masks: &mut [u16],
@@ -10,7 +15,9 @@ pub extern "C" fn deblock_correct_column(
     start: u32,
     left: &[u8],
     left_uv: &[u8],
-) -> u32 {
+) -> u32
+    ensures { λ r. ⌜ CorrectAnswer (columnOf width height layout superblock row start) (now (left .entry)) (now («left_uv» .entry)) r (now (masks .entry)) (now (masks .exit)) ⌝ }
+{
     correct::correct_column(
         masks,
         width,
@@ -34,7 +41,9 @@ pub extern "C" fn deblock_correct_row(
     row: u32,
     above: &[u8],
     above_uv: &[u8],
-) -> u32 {
+) -> u32
+    ensures { λ r. ⌜ CorrectAnswer (rowOf width height layout superblock row) (now (above .entry)) (now («above_uv» .entry)) r (now (masks .entry)) (now (masks .exit)) ⌝ }
+{
     correct::correct_row(
         masks,
         width,
@@ -66,7 +75,12 @@ pub extern "C" fn deblock_columns_8(
     level_u: u32,
     level_v: u32,
     row: u32,
-) -> u32 {
+) -> u32
+    ensures { λ r. ⌜ FilterAnswer (callOf false 8 «luma_stride» «chroma_stride» stride width height layout superblock «level_u» «level_v» row)
+        (limits (now (e .entry)) (now (i .entry)))
+        (lent (now (luma .entry)) (now (u .entry)) (now (v .entry)) (now (levels .entry)) (now (masks .entry))) r
+        (three (now (luma .exit)) (now (u .exit)) (now (v .exit))) ⌝ }
+{
     apply::columns_8(
         luma,
         luma_stride,
@@ -107,7 +121,12 @@ pub extern "C" fn deblock_rows_8(
     level_u: u32,
     level_v: u32,
     row: u32,
-) -> u32 {
+) -> u32
+    ensures { λ r. ⌜ FilterAnswer (callOf true 8 «luma_stride» «chroma_stride» stride width height layout superblock «level_u» «level_v» row)
+        (limits (now (e .entry)) (now (i .entry)))
+        (lent (now (luma .entry)) (now (u .entry)) (now (v .entry)) (now (levels .entry)) (now (masks .entry))) r
+        (three (now (luma .exit)) (now (u .exit)) (now (v .exit))) ⌝ }
+{
     apply::rows_8(
         luma,
         luma_stride,
@@ -149,7 +168,12 @@ pub extern "C" fn deblock_columns_16(
     level_u: u32,
     level_v: u32,
     row: u32,
-) -> u32 {
+) -> u32
+    ensures { λ r. ⌜ FilterAnswer (callOf false depth «luma_stride» «chroma_stride» stride width height layout superblock «level_u» «level_v» row)
+        (limits (now (e .entry)) (now (i .entry)))
+        (lent (now (luma .entry)) (now (u .entry)) (now (v .entry)) (now (levels .entry)) (now (masks .entry))) r
+        (three (now (luma .exit)) (now (u .exit)) (now (v .exit))) ⌝ }
+{
     apply::columns_16(
         luma,
         luma_stride,
@@ -192,7 +216,12 @@ pub extern "C" fn deblock_rows_16(
     level_u: u32,
     level_v: u32,
     row: u32,
-) -> u32 {
+) -> u32
+    ensures { λ r. ⌜ FilterAnswer (callOf true depth «luma_stride» «chroma_stride» stride width height layout superblock «level_u» «level_v» row)
+        (limits (now (e .entry)) (now (i .entry)))
+        (lent (now (luma .entry)) (now (u .entry)) (now (v .entry)) (now (levels .entry)) (now (masks .entry))) r
+        (three (now (luma .exit)) (now (u .exit)) (now (v .exit))) ⌝ }
+{
     apply::rows_16(
         luma,
         luma_stride,
