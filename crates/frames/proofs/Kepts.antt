@@ -1,6 +1,6 @@
 -- A plane keeps the rule over the whole frame where each call's look found it kept, and boundaries keep it with what is above them.
-use mathlib.Core.Path.{_≡_, refl, sym, _∙_}
-use mathlib.Core.Bool.{Bool, true, false, cond, _&&_, not, and-eq-true-iff}
+use mathlib.Core.Path.{_≡_, refl}
+use mathlib.Core.Bool.{Bool, true, false, cond, not, and-eq-true-iff}
 use mathlib.Core.List.{List, []}
 use mathlib.Core.Logic.{_⊎_, ⊎-elim, by-cases}
 use mathlib.Core.Option.{Option, some, none}
@@ -11,12 +11,12 @@ use native.Mathlib.Omega.{arith}
 use lib.Dec.{eqb, ltb}
 use borrow.Author.Tests.{ltb-true}
 use Rattle.loops.proofs.Tables.{each-at}
-use Rattle.plane.specs.Gap.{GapRule, Neighbours}
+use Rattle.plane.specs.Gap.{GapRule}
 use Rattle.plane.specs.Line.{Pass, columns, rows, Piece, Change, Gives}
 use Rattle.plane.specs.Plane.{Plane, luma, chroma, Kept, Boundary, end, right, down}
 use Rattle.units.specs.Frame.{records, superblocks}
 use Rattle.units.specs.Units.{chromaUnit, chromaUnits}
-use Rattle.edges.specs.Edges.{Proper, unitsOf, other, side, inFrame, highest, classes, edgeBit, edge}
+use Rattle.edges.specs.Edges.{Proper, unitsOf, other, side, inFrame, edge}
 use Rattle.line.specs.Width.{four, six, eight, sixteen}
 use Rattle.line.proofs.Rules.{gives}
 use Rattle.walk.specs.Walk.{lenOf}

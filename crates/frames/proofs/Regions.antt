@@ -26,7 +26,7 @@ use Rattle.filter.specs.Ready.{Stored, Fit}
 use Rattle.frames.specs.Looked.{Looked}
 use Rattle.frames.proofs.Kepts.{Size, in-frame, by-size, in-groups, class-gives}
 
-fair : (b : Bool) → Fair (cond b luma chroma)
+pub fair : (b : Bool) → Fair (cond b luma chroma)
 fair true = fair-luma
 fair false = fair-chroma
 

@@ -1,8 +1,8 @@
 -- The gap rule over a whole line: two neighbours lie in one superblock row, since its boundaries are marks, and there the rule is known.
-use mathlib.Core.Path.{_≡_, refl, sym, ap, _∙_}
+use mathlib.Core.Path.{_≡_, refl, sym, _∙_}
 use mathlib.Core.Logic.{by-cases}
 use mathlib.Core.Option.{Option, some}
-use Prim.Native.Nat.{ℕ, zero, suc, _+_, _-_, _*_, _/_, _%_, _≤_, _<_}
+use Prim.Native.Nat.{ℕ, suc, _+_, _-_, _*_, _/_, _%_, _≤_, _<_}
 use native.Mathlib.Decide.{ℕ-discrete, decLt, decLe}
 use native.Mathlib.Nat.{div-add-mod', mod-lt, mul-mod-left, mul-le-mul-right, suc-mul}
 use native.Mathlib.Omega.{arith}

@@ -6,13 +6,14 @@
 --   after f d k s       what it leaves in the planes
 --   planes f            the planes that the frame defines
 --   sbRows f            how many superblock rows there are
---   Accepted f s        every call of the frame answers 0
+--   Accepted f s        there is a call, and every one of the frame answers 0
 --   BoundariesKept f    the one hypothesis that no call checks, of each plane
 use mathlib.Core.Bool.{Bool, true, false, cond}
 use mathlib.Core.List.{List, []}
 use mathlib.Core.Path.{_≡_}
 use Prim.Native.Nat.{ℕ, _<_}
 use lib.Dec.{eqb}
+use Rattle.bits.specs.Mark.{Words}
 use Rattle.plane.specs.Line.{Pass, columns, rows}
 use Rattle.plane.specs.Plane.{Plane}
 use Rattle.plane.specs.Three.{Three}
@@ -28,6 +29,7 @@ pub record Frame : Type 0 where
   pub limits : Limits
   pub levels : List ℕ
   pub masks : List ℕ
+  pub words : Words masks
 
 abbrev pub isRows : Pass → Bool
 isRows columns = false
@@ -65,8 +67,9 @@ after f d k s = cond (eqb (answer f d k s) 0) (passCall (callAt f d k) (planes f
 abbrev pub sbRows : Frame → ℕ
 sbRows f = superblocks (h4 (f .head)) (sb4 (f .head))
 
-abbrev pub Accepted : Frame → Three (List ℕ) → Type 0
-Accepted f s = (d : Pass) (k : ℕ) → k < sbRows f → answer f d k s ≡ 0
+pub record Accepted (f : Frame) (s : Three (List ℕ)) : Type 0 where
+  pub some : 0 < sbRows f
+  pub all : (d : Pass) (k : ℕ) → k < sbRows f → answer f d k s ≡ 0
 
 pub record BoundariesKept (f : Frame) : Type 0 where
   pub luma : BoundariesKeep (planes f .luma)

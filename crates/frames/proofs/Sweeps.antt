@@ -1,0 +1,36 @@
+-- A pass over a superblock row, piece by piece: what each piece of the row keeps, of one list or between two, the pass keeps.
+use mathlib.Core.Path.{_≡_, refl, sym, ap, _∙_}
+use mathlib.Core.List.{List}
+use Prim.Native.Nat.{ℕ, zero, suc, _+_, _<_}
+use native.Mathlib.Omega.{arith}
+use Rattle.loops.specs.Run.{upTo}
+use Rattle.plane.specs.Line.{Pass, columns, rows, Piece}
+use Rattle.plane.specs.Plane.{Plane, act, InRow}
+use Rattle.filter.specs.Filter.{firstAcross, firstAlong, across, along, lineOf, sweepOf}
+
+upTo-both : {S : Type 0} (R : S → S → Type 0) (g : ℕ → S → S) (n : ℕ) → ((i : ℕ) → i < n → (s t : S) → R s t → R (g i s) (g i t))
+    → (s t : S) → R s t → R (upTo g n s) (upTo g n t)
+upTo-both R g zero h s t r = r
+upTo-both R g (suc n) h s t r = h n (omega arith) (upTo g n s) (upTo g n t) (upTo-both R g n (λ i l. h i (omega arith)) s t r)
+
+module _ (P : Plane) (k : ℕ) where
+  in-row : (d : Pass) (g a v : ℕ) → a < across P d → v < along P d → InRow P d k (firstAcross P d k g + a, firstAlong P d k g + v)
+  in-row columns g a v x y = record { from = omega arith; to = omega arith }
+  in-row rows g a v x y = record { from = omega arith; to = omega arith }
+
+  pub sweep-both : (R : List ℕ → List ℕ → Type 0) (d : Pass) → ((p : Piece) → InRow P d k p → (s t : List ℕ) → R s t → R (act P d p s) (act P d p t))
+      → (s t : List ℕ) → R s t → R (sweepOf P d k s) (sweepOf P d k t)
+  unfolding sweepOf lineOf
+  sweep-both R d h =
+      upTo-both R _ (P .groups) (λ g _. upTo-both R _ (across P d) (λ a x. upTo-both R _ (along P d) (λ v y. h _ (in-row d g a v x y))))
+
+  -- a change that commutes with each piece commutes with the pass
+  sweep-past : (d : Pass) (f : List ℕ → List ℕ) → ((p : Piece) → InRow P d k p → (s : List ℕ) → f (act P d p s) ≡ act P d p (f s))
+      → (s : List ℕ) → f (sweepOf P d k s) ≡ sweepOf P d k (f s)
+  sweep-past d f h s = sweep-both (λ l m. f l ≡ m) d (λ p r l m e. h p r l ∙ ap (act P d p) e) s (f s) refl
+
+pub sweeps-commute : (P : Plane) (d e : Pass) (j k : ℕ)
+    → ((p q : Piece) → InRow P d j p → InRow P e k q → (s : List ℕ) → act P d p (act P e q s) ≡ act P e q (act P d p s))
+    → (s : List ℕ) → sweepOf P d j (sweepOf P e k s) ≡ sweepOf P e k (sweepOf P d j s)
+sweeps-commute P d e j k h =
+    sweep-past P k e (sweepOf P d j) (λ q b s. sym (sweep-past P j d (act P e q) (λ p a t. sym (h p q a b t)) s))
