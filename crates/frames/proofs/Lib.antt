@@ -1,7 +1,8 @@
 pub mod Wholes
 pub mod Kepts
-pub mod Regions
 pub mod Sweeps
+pub mod Regions
 pub mod Stays
 pub mod Planes
+pub mod Reach
 pub mod Theorems

@@ -5,7 +5,7 @@ use mathlib.Core.Bool.{Bool, true, false}
 use mathlib.Core.List.{List, [], _∷_}
 use mathlib.Core.Logic.{_≢_, ⊎-elim}
 use mathlib.Core.Option.{Option, some, none}
-use Prim.Native.Nat.{ℕ, zero, suc, _-_, _*_, _/_, _<_}
+use Prim.Native.Nat.{ℕ, _*_, _/_, _<_}
 use native.Mathlib.Nat.{div-add-mod', mod-lt, div-lt-iff-lt-mul, mul-le-mul-right}
 use native.Mathlib.Omega.{arith}
 use lib.Dec.{eqb}
@@ -13,14 +13,14 @@ use Rattle.loops.specs.Run.{run, pieces, upTo}
 use Rattle.loops.proofs.Runs.{run-parts, upTo-idle}
 use Rattle.loops.proofs.Locals.{commute}
 use Rattle.plane.specs.Line.{Pass, columns, rows, Piece}
-use Rattle.plane.specs.Plane.{Plane, inner, class, IsPiece, act, colsOf, rowsOf, rasterOf, down, Kept, InRow}
+use Rattle.plane.specs.Plane.{Plane, class, IsPiece, act, colsOf, rowsOf, rasterOf, down, Kept, InRow}
 use Rattle.plane.specs.Three.{Three}
 use Rattle.plane.proofs.Pieces.{Fair, inner-some, idle, local, apart, past}
 use Rattle.units.specs.Frame.{superblocks}
 use Rattle.order.specs.Demand3.{Demand3}
 use Rattle.order.proofs.Frames.{demand3}
 use Rattle.filter.specs.declared.Component.{Component}
-use Rattle.filter.specs.Filter.{Tables, planeOf, sweepOf}
+use Rattle.filter.specs.Filter.{Tables, planeOf}
 use Rattle.filter.proofs.Sweeps as filter
 use Rattle.checks.specs.Call.{chromaOn, luma}
 use Rattle.checks.proofs.Accepted.{filtered-u, filtered-v}
@@ -29,7 +29,7 @@ use Rattle.frames.specs.Whole.{RowsKeep, BoundariesKeep}
 use Rattle.frames.specs.Calls.{Frame, callAt, lentOf, planes, Accepted, BoundariesKept}
 use Rattle.frames.proofs.Kepts.{Size, kept}
 use Rattle.frames.proofs.Regions.{fair}
-use Rattle.frames.proofs.Sweeps.{sweep-both}
+use Rattle.frames.proofs.Sweeps.{sweep-stays, shown-none}
 use Rattle.frames.proofs.Stays.{Done, done}
 
 pub record Sound (P : Plane) : Type 0 where
@@ -82,18 +82,15 @@ module _ (P : Plane) (no-edge : (d : Pass) (p : Piece) → class P d p ≡ none)
   run-stays d [] s = refl
   run-stays d (p ∷ l) s = run-stays d l (act P d p s) ∙ stays d p s
 
-  sweep-stays : (d : Pass) (k : ℕ) (s : List ℕ) → sweepOf P d k s ≡ s
-  sweep-stays d k s = sweep-both P k (λ l _. l ≡ s) d (λ p _ l _ e. stays d p l ∙ e) s s refl
-
   raster-stays : (d : Pass) (s : List ℕ) → rasterOf P d s ≡ s
   unfolding rasterOf
   raster-stays d = upTo-idle _ 0 (P .sbs * P .sb) (λ y _. upTo-idle _ 0 (P .groups * P .group) (λ x _. stays d _) (omega arith)) (omega arith)
 
   cols-stay : (k : ℕ) (s : List ℕ) → colsOf P k s ≡ s
-  cols-stay k s = sym (filter.promises .columns-are P k s) ∙ sweep-stays columns k s
+  cols-stay k s = sym (filter.promises .columns-are P k s) ∙ sweep-stays P no-edge columns k s
 
   rows-stay : (k : ℕ) (s : List ℕ) → rowsOf P k s ≡ s
-  rows-stay k s = sym (filter.promises .rows-are P k s) ∙ sweep-stays rows k s
+  rows-stay k s = sym (filter.promises .rows-are P k s) ∙ sweep-stays P no-edge rows k s
 
   turns-stay : (s : List ℕ) → upTo (λ k t. rowsOf P k (colsOf P k t)) (P .sbs) s ≡ s
   turns-stay = upTo-idle _ 0 (P .sbs) (λ k _ t. rows-stay k (colsOf P k t) ∙ cols-stay k t) (omega arith)
@@ -143,13 +140,9 @@ module _ (c : Component) (t : Tables) (s : List ℕ) (some : 0 < superblocks (c 
 
 -- ---- the planes of a frame
 
-inner-none : (u : ℕ) → inner u none ≡ none
-inner-none zero = refl
-inner-none (suc u) = refl
-
 shown-sound : (P : Plane) (on : Bool) → BoundariesKeep (shown on P) → (on ≡ true → BoundariesKeep P → Sound P) → Sound (shown on P)
 shown-sound P true b h = h refl b
-shown-sound P false b h = sound-none (shown false P) (λ d p. inner-none (p .0))
+shown-sound P false b h = sound-none (shown false P) (shown-none P)
 
 module _ (f : Frame) (s : Three (List ℕ)) (a : Accepted f s) (b : BoundariesKept f) where
   pub sound-luma : Sound (planes f .luma)

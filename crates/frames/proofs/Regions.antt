@@ -1,5 +1,5 @@
--- An accepted call reads and writes only samples that it has looked at: by the gap rule an edge piece of its row stays within them.
-use mathlib.Core.Path.{_≡_, ap, subst, subst⁻¹}
+-- An accepted call changes samples only as far above its row as it writes, and sees them as far as it reads: by the gap rule an edge piece of the row stays within that.
+use mathlib.Core.Path.{_≡_, refl, sym, ap, _∙_, subst, subst⁻¹}
 use mathlib.Core.List.{List}
 use mathlib.Core.Bool.{Bool, true, false, cond}
 use mathlib.Core.Logic.{by-cases}
@@ -21,9 +21,10 @@ use Rattle.plane.proofs.Pieces.{Fair, fair-luma, fair-chroma, inner-some, ruleA
 use Rattle.gap.specs.Numbers.{part}
 use Rattle.gap.specs.Promises.{Nowhere}
 use Rattle.filter.specs.declared.Component.{Component}
-use Rattle.filter.specs.Filter.{Tables, levelOf, planeOf}
+use Rattle.filter.specs.Filter.{Tables, levelOf, planeOf, sweepOf}
 use Rattle.filter.specs.Ready.{Stored, Fit}
-use Rattle.frames.specs.Looked.{Looked}
+use Rattle.frames.specs.Within.{Within, Agree}
+use Rattle.frames.proofs.Sweeps.{sweep-both}
 use Rattle.frames.proofs.Kepts.{Size, in-frame, by-size, in-groups, class-gives}
 
 pub fair : (b : Bool) → Fair (cond b luma chroma)
@@ -39,6 +40,9 @@ module _ (c : Component) (t : Tables) (len : ℕ) (s : Stored c t len) (k : ℕ)
 
   abbrev R : ℕ → ℕ
   R = P .widths .reads
+
+  abbrev W : ℕ → ℕ
+  W = P .widths .writes
 
   wide : Fair (P .widths)
   wide = fair (eqb (c .plane) 0)
@@ -109,27 +113,56 @@ module _ (c : Component) (t : Tables) (len : ℕ) (s : Stored c t len) (k : ℕ)
           let i = in-frame c t rows p cls (inner-some (p .0) (P .edge rows p) cls e .1) in
           omega (arith, s .stored-wide, in-groups (p .1) (c .w4 .0) (c .ssx) (s .proper .ssx-le) (i .1))
 
-  -- and what it reads is looked at
-  pub reads-looked : (d : Pass) → Fit c t d k → (p : Piece) → InRow P d k p → (i : ℕ) → Reads P d p i → Looked c d k i
-  reads-looked d f p r i b =
-      let x = reads-piece P d p i b in
-      let e : ruleAt P d p .reads ≡ R (x .0) = ap (λ o. ruleOf P d p o .reads) (x .1) in
-      go d f p r (x .0) (x .1) (far d f p (x .0) r (x .1)) (wide .reach .any (x .0)) (subst (λ n. Box d (P .stride) n p i) e b)
-    where
-      go : (d : Pass) → Fit c t d k → (p : Piece) → InRow P d k p → (cls : ℕ) → class P d p ≡ some cls → Far d (R cls) p → R cls ≤ 8 → Box d (P .stride) (R cls) p i → Looked c d k i
-      go columns f p r cls e x m b = record { right = omega (arith, b .right); from = omega (arith, b .from, r .from); to = omega (arith, b .below, r .to) }
-      go rows f p r cls e x m b =
-          let j = in-frame c t rows p cls (inner-some (p .0) (P .edge rows p) cls e .1) in
-          record {
-            right = omega (arith, b .below, in-groups (p .1) (c .w4 .0) (c .ssx) (s .proper .ssx-le) (j .1));
-            from = omega (arith, b .left, r .from);
-            to = omega (arith, b .right);
-          }
-
-  pub local-row : (d : Pass) → Fit c t d k → (p : Piece) → InRow P d k p → Local (line.lineOf d (P .stride)) (Writes P d p) (Reads P d p) (act P d p)
+  -- a piece of the row is local
+  local-row : (d : Pass) → Fit c t d k → (p : Piece) → InRow P d k p → Local (line.lineOf d (P .stride)) (Writes P d p) (Reads P d p) (act P d p)
   local-row d f p r = local-of P d p (placed d f p r)
 
-  -- so it changes no other
-  pub act-outside : (d : Pass) → Fit c t d k → (p : Piece) → InRow P d k p → (l : List ℕ) (i : ℕ) → ¬ Looked c d k i
-      → getD (act P d p l) i 0 ≡ getD l i 0
-  act-outside d f p r l i n = local-row d f p r .outside l i (λ w. n (reads-looked d f p r i (local-row d f p r .within i w)))
+  -- and stays about the row
+  box-within : (d : Pass) → Fit c t d k → (p : Piece) → InRow P d k p → (cls : ℕ) → class P d p ≡ some cls → (n m i : ℕ) → n ≤ R cls → n ≤ m
+      → Box d (P .stride) n p i → Within P m d k i
+  box-within d f p r cls e n m i = go d p r e (far d f p cls r e)
+    where
+      go : (d : Pass) (p : Piece) → InRow P d k p → class P d p ≡ some cls → Far d (R cls) p → n ≤ R cls → n ≤ m → Box d (P .stride) n p i → Within P m d k i
+      go columns p r e x a b w = record { right = omega (arith, w .right); from = omega (arith, w .from, r .from); to = omega (arith, w .below, r .to) }
+      go rows p r e x a b w =
+          let j = in-frame c t rows p cls (inner-some (p .0) (P .edge rows p) cls e .1) in
+          record {
+            right = omega (arith, w .below, in-groups (p .1) (c .w4 .0) (c .ssx) (s .proper .ssx-le) (j .1));
+            from = omega (arith, w .left, r .from);
+            to = omega (arith, w .right);
+          }
+
+  module _ (d : Pass) (f : Fit c t d k) (p : Piece) (r : InRow P d k p) (m : ℕ) where
+    reads-within : ((cls : ℕ) → R cls ≤ m) → (i : ℕ) → Reads P d p i → Within P m d k i
+    reads-within h i b =
+        let x = reads-piece P d p i b in
+        let e : ruleAt P d p .reads ≡ R (x .0) = ap (λ o. ruleOf P d p o .reads) (x .1) in
+        box-within d f p r (x .0) (x .1) (R (x .0)) m i (omega arith) (h (x .0)) (subst (λ n. Box d (P .stride) n p i) e b)
+
+    writes-within : ((cls : ℕ) → W cls ≤ m) → (i : ℕ) → Writes P d p i → Within P m d k i
+    writes-within h i b =
+        let x = reads-piece P d p i (local-row d f p r .within i b) in
+        let e : ruleAt P d p .writes ≡ W (x .0) = ap (λ o. ruleOf P d p o .writes) (x .1) in
+        box-within d f p r (x .0) (x .1) (W (x .0)) m i (wide .fewer (x .0)) (h (x .0)) (subst (λ n. Box d (P .stride) n p i) e b)
+
+    -- so it changes no sample farther than it writes
+    act-outside : ((cls : ℕ) → W cls ≤ m) → (l : List ℕ) (i : ℕ) → ¬ Within P m d k i → getD (act P d p l) i 0 ≡ getD l i 0
+    act-outside h l i n = local-row d f p r .outside l i (λ w. n (writes-within h i w))
+
+    -- and sees none farther than it reads
+    act-inside : ((cls : ℕ) → R cls ≤ m) → (l l′ : List ℕ) → Agree P m d k l l′ → Agree P m d k (act P d p l) (act P d p l′)
+    act-inside h l l′ a =
+        let o = local-row d f p r in
+        record {
+          long = o .keeps l ∙ a .long ∙ sym (o .keeps l′);
+          same = λ i w. by-cases (o .decide i) (λ b. o .inside l l′ (a .long) i b (λ j x _. a .same j (reads-within h j x)))
+              (λ n. o .outside l i n ∙ a .same i w ∙ sym (o .outside l′ i n));
+        }
+
+  -- so does the pass
+  module _ (d : Pass) (f : Fit c t d k) (m : ℕ) where
+    pub sweep-outside : ((cls : ℕ) → W cls ≤ m) → (l : List ℕ) (i : ℕ) → ¬ Within P m d k i → getD (sweepOf P d k l) i 0 ≡ getD l i 0
+    sweep-outside h l i n = sweep-both P k (λ l′ _. getD l′ i 0 ≡ getD l i 0) d (λ p r l′ _ e. act-outside d f p r m h l′ i n ∙ e) l l refl
+
+    pub sweep-inside : ((cls : ℕ) → R cls ≤ m) → (l l′ : List ℕ) → Agree P m d k l l′ → Agree P m d k (sweepOf P d k l) (sweepOf P d k l′)
+    sweep-inside h = sweep-both P k (Agree P m d k) d (λ p r. act-inside d f p r m h)

@@ -1,14 +1,14 @@
 -- No call changes another's number: a number sees of the samples their count and which are above the depth's maximum, and a call that is done keeps both, since
 -- those that it has looked at stay in range, and it changes no other.
 use mathlib.Core.Path.{_≡_, refl, sym, ap, _∙_, subst}
-use mathlib.Core.Bool.{Bool, true, false, cond, not, _&&_, _||_}
+use mathlib.Core.Bool.{Bool, cond, not, _&&_, _||_}
 use mathlib.Core.List.{List}
 use mathlib.Core.Logic.{by-cases}
 use Prim.Native.Nat.{ℕ, suc, _+_, _-_, _*_, _/_, _%_, _^_, _≤_, _<_}
 use native.Mathlib.Decide.{ℕ-discrete, decLe, decLt}
 use native.Mathlib.Nat.{div-add-mod'}
 use native.Mathlib.Omega.{arith}
-use lib.Dec.{ltb}
+use lib.Dec.{eqb, ltb}
 use lib.ListN.{length, getD}
 use borrow.Author.Tests.{le-ltb, eq-eqb, ne-eqb}
 use Rattle.loops.specs.Any.{anyBelow}
@@ -17,25 +17,24 @@ use Rattle.plane.specs.Line.{Pass, columns, rows}
 use Rattle.plane.specs.Plane.{Plane}
 use Rattle.plane.specs.Three.{Three, colsCall, rowsCall}
 use Rattle.units.specs.Units.{chromaUnit}
-use Rattle.units.specs.Frame.{records, stored}
+use Rattle.units.specs.Frame.{stored}
 use Rattle.units.specs.Memory.{planeOk}
-use Rattle.edges.specs.Edges.{passNo, side}
+use Rattle.edges.specs.Edges.{passNo}
 use Rattle.scans.specs.Scan.{someFrom, samplesHigh}
 use Rattle.filter.specs.declared.Component.{Component}
-use Rattle.filter.specs.Filter.{Tables, gridOf, planeOf, sweepOf}
+use Rattle.filter.specs.Filter.{Tables, planeOf, sweepOf}
 use Rattle.filter.specs.Ready.{Stored, Fit, Under}
 use Rattle.filter.proofs.Sweeps as filter
 use Rattle.checks.specs.declared.Call.{Call}
 use Rattle.checks.specs.Call.{samples, passOf, sb4, ssx, ssy, strideOf, chromaOn, Filtered, luma}
 use Rattle.checks.specs.Tests.{levelBad, depthBad, shapeBad, lengthBad, inside, levelsBad, planeBad, marked, number}
 use Rattle.checks.proofs.Accepted.{filtered-u, filtered-v}
-use Rattle.apply.specs.Apply.{componentOf, tablesOf, shown, passCall}
+use Rattle.apply.specs.Apply.{componentOf, tablesOf, passCall}
 use Rattle.apply.proofs.Readies.{ready, deep, under}
-use Rattle.apply.proofs.Answers.{shown-cols, shown-rows}
-use Rattle.frames.specs.Looked.{Looked}
+use Rattle.frames.specs.Within.{Within}
 use Rattle.frames.specs.Calls.{Frame, callAt, lentOf, answer, planes, after}
-use Rattle.frames.proofs.Regions.{act-outside}
-use Rattle.frames.proofs.Sweeps.{sweep-both}
+use Rattle.frames.proofs.Regions.{fair, sweep-outside}
+use Rattle.frames.proofs.Sweeps.{shown-case}
 
 -- ---- what a number sees of the samples
 
@@ -76,13 +75,13 @@ answer-alike f d j s t a =
 
 -- ---- what a pass that is done leaves
 
-dec-looked : (c : Component) (d : Pass) (k i : ℕ) → Dec (Looked c d k i)
-dec-looked c d k i =
-    by-cases (decLt (i % c .stride) (4 * (records (c .w4 .0) * side (gridOf c) columns)))
-    (λ a. by-cases (decLe (4 * (k * chromaUnit (c .ssy) (c .sb4 .0))) (i / c .stride + 8 * passNo d))
-    (λ b. by-cases (decLt (i / c .stride) (4 * (suc k * chromaUnit (c .ssy) (c .sb4 .0))))
-    (λ e. yes (record { right = a; from = b; to = e })) (λ n. no (λ x. n (x .to))))
-    (λ n. no (λ x. n (x .from)))) (λ n. no (λ x. n (x .right)))
+dec-within : (P : Plane) (n : ℕ) (d : Pass) (k i : ℕ) → Dec (Within P n d k i)
+dec-within P n d k i =
+    by-cases (decLt (i % P .stride) (4 * (P .groups * P .group)))
+    (λ a. by-cases (decLe (4 * (k * P .sb)) (i / P .stride + n * passNo d))
+    (λ b. by-cases (decLt (i / P .stride) (4 * (suc k * P .sb)))
+    (λ e. yes (record { right = a; from = b; to = e })) (λ m. no (λ x. m (x .to))))
+    (λ m. no (λ x. m (x .from)))) (λ m. no (λ x. m (x .right)))
 
 -- what numbers up to 12 leave of one plane
 pub record Done (c : Component) (t : Tables) (d : Pass) (k : ℕ) (s : List ℕ) : Type 0 where
@@ -93,7 +92,7 @@ pub record Done (c : Component) (t : Tables) (d : Pass) (k : ℕ) (s : List ℕ)
 
 module _ (c : Component) (t : Tables) (d : Pass) (k : ℕ) (s : List ℕ) (o : Done c t d k s) (w : Words (t .masks)) where
   -- a sample that it looked at was in range, and is
-  looked : (i : ℕ) → Looked c d k i → ltb (2 ^ t .depth - 1) (getD (sweepOf (planeOf c t) d k s) i 0) ≡ ltb (2 ^ t .depth - 1) (getD s i 0)
+  looked : (i : ℕ) → Within (planeOf c t) 8 d k i → ltb (2 ^ t .depth - 1) (getD (sweepOf (planeOf c t) d k s) i 0) ≡ ltb (2 ^ t .depth - 1) (getD s i 0)
   looked i l =
       let e : i / c .stride * c .stride + i % c .stride ≡ i = div-add-mod' i (c .stride) in
       let z : k + 1 ≡ suc k = omega arith in
@@ -103,24 +102,18 @@ module _ (c : Component) (t : Tables) (d : Pass) (k : ℕ) (s : List ℕ) (o : D
       le-ltb (2 ^ t .depth - 1) (getD (sweepOf (planeOf c t) d k s) i 0) (omega arith) ∙ sym (le-ltb (2 ^ t .depth - 1) (getD s i 0) (omega arith))
 
   -- any other stays
-  not-looked : (i : ℕ) → ¬ Looked c d k i → getD (sweepOf (planeOf c t) d k s) i 0 ≡ getD s i 0
-  not-looked i n =
-      sweep-both (planeOf c t) k (λ l _. getD l i 0 ≡ getD s i 0) d
-      (λ p r l _ e. act-outside c t (length s) (o .stored) k d (o .fit) p r l i n ∙ e) s s refl
+  not-looked : (i : ℕ) → ¬ Within (planeOf c t) 8 d k i → getD (sweepOf (planeOf c t) d k s) i 0 ≡ getD s i 0
+  not-looked = sweep-outside c t (length s) (o .stored) k d (o .fit) 8 few s
+    where
+      few : (cls : ℕ) → planeOf c t .widths .writes cls ≤ 8
+      few cls = let w = fair (eqb (c .plane) 0) in omega (arith, w .fewer cls, w .reach .any cls)
 
   sweep-alike : Alike (2 ^ t .depth) (sweepOf (planeOf c t) d k s) s
   sweep-alike =
       record {
         long = filter.promises .keeps (planeOf c t) d k s;
-        high = λ i. by-cases (dec-looked c d k i) (looked i) (λ n. ap (λ (x : ℕ). ltb (2 ^ t .depth - 1) x) (not-looked i n));
+        high = λ i. by-cases (dec-within (planeOf c t) 8 d k i) (looked i) (λ n. ap (λ (x : ℕ). ltb (2 ^ t .depth - 1) x) (not-looked i n));
       }
-
-shown-alike : (P : Plane) (m : ℕ) (d : Pass) (k : ℕ) (s : List ℕ) (on : Bool) → (on ≡ true → Alike m (sweepOf P d k s) s) → Alike m (sweepOf (shown on P) d k s) s
-shown-alike P m d k s true h = h refl
-shown-alike P m columns k s false h =
-    subst (λ (l : List ℕ). Alike m l s) (sym (filter.promises .columns-are (shown false P) k s ∙ shown-cols P false k s)) (same m s)
-shown-alike P m rows k s false h =
-    subst (λ (l : List ℕ). Alike m l s) (sym (filter.promises .rows-are (shown false P) k s ∙ shown-rows P false k s)) (same m s)
 
 -- ---- a call
 
@@ -155,16 +148,19 @@ module _ (f : Frame) (k : ℕ) (s : Three (List ℕ)) where
   after-done d e = rw (eq-eqb (answer f d k s) 0 e) (pass-is f d k (planes f) s)
 
   -- refused
-  after-refused : (d : Pass) → ¬ (answer f d k s ≡ 0) → after f d k s ≡ s
+  pub after-refused : (d : Pass) → ¬ (answer f d k s ≡ 0) → after f d k s ≡ s
   unfolding after
   after-refused d n = rw (ne-eqb (answer f d k s) 0 n) refl
 
   sweeps-alike : (d : Pass) → answer f d k s ≡ 0 → Alike3 (2 ^ f .head .depth) (sweepCall (planes f) d k s) s
   sweeps-alike d e =
+      let m = 2 ^ f .head .depth in
       record {
         luma = sweep-alike _ _ d k (s .luma) (done d e luma) (f .words);
-        u = shown-alike _ _ d k (s .u) (chromaOn (f .head)) (λ o. sweep-alike _ _ d k (s .u) (done d e (filtered-u (callAt f d k) o)) (f .words));
-        v = shown-alike _ _ d k (s .v) (chromaOn (f .head)) (λ o. sweep-alike _ _ d k (s .v) (done d e (filtered-v (callAt f d k) o)) (f .words));
+        u = shown-case _ d k (λ _ g. Alike m (g (s .u)) (s .u)) (chromaOn (f .head))
+            (λ o. sweep-alike _ _ d k (s .u) (done d e (filtered-u (callAt f d k) o)) (f .words)) (same m (s .u));
+        v = shown-case _ d k (λ _ g. Alike m (g (s .v)) (s .v)) (chromaOn (f .head))
+            (λ o. sweep-alike _ _ d k (s .v) (done d e (filtered-v (callAt f d k) o)) (f .words)) (same m (s .v));
       }
 
   after-alike : (d : Pass) → Alike3 (2 ^ f .head .depth) (after f d k s) s

@@ -1,12 +1,16 @@
--- A pass over a superblock row, piece by piece: what each piece of the row keeps, of one list or between two, the pass keeps.
-use mathlib.Core.Path.{_≡_, refl, sym, ap, _∙_}
+-- A pass over a superblock row, piece by piece: what each piece of the row keeps, of one list or between two, the pass keeps; with no edges it does nothing.
+use mathlib.Core.Path.{_≡_, refl, sym, ap, _∙_, subst⁻¹}
+use mathlib.Core.Bool.{Bool, true, false}
 use mathlib.Core.List.{List}
+use mathlib.Core.Option.{none}
 use Prim.Native.Nat.{ℕ, zero, suc, _+_, _<_}
 use native.Mathlib.Omega.{arith}
 use Rattle.loops.specs.Run.{upTo}
 use Rattle.plane.specs.Line.{Pass, columns, rows, Piece}
-use Rattle.plane.specs.Plane.{Plane, act, InRow}
+use Rattle.plane.specs.Plane.{Plane, inner, class, act, InRow}
+use Rattle.plane.proofs.Pieces.{idle}
 use Rattle.filter.specs.Filter.{firstAcross, firstAlong, across, along, lineOf, sweepOf}
+use Rattle.apply.specs.Apply.{shown}
 
 upTo-both : {S : Type 0} (R : S → S → Type 0) (g : ℕ → S → S) (n : ℕ) → ((i : ℕ) → i < n → (s t : S) → R s t → R (g i s) (g i t))
     → (s t : S) → R s t → R (upTo g n s) (upTo g n t)
@@ -28,6 +32,23 @@ module _ (P : Plane) (k : ℕ) where
   sweep-past : (d : Pass) (f : List ℕ → List ℕ) → ((p : Piece) → InRow P d k p → (s : List ℕ) → f (act P d p s) ≡ act P d p (f s))
       → (s : List ℕ) → f (sweepOf P d k s) ≡ sweepOf P d k (f s)
   sweep-past d f h s = sweep-both (λ l m. f l ≡ m) d (λ p r l m e. h p r l ∙ ap (act P d p) e) s (f s) refl
+
+-- where there is no edge nothing is done
+pub sweep-stays : (P : Plane) → ((d : Pass) (p : Piece) → class P d p ≡ none) → (d : Pass) (k : ℕ) (s : List ℕ) → sweepOf P d k s ≡ s
+sweep-stays P n d k s = sweep-both P k (λ l _. l ≡ s) d (λ p _ l _ e. idle P d p (n d p) l ∙ e) s s refl
+
+pub shown-none : (P : Plane) (d : Pass) (p : Piece) → class (shown false P) d p ≡ none
+shown-none P d p = go (p .0)
+  where
+    go : (u : ℕ) → inner u none ≡ none
+    go zero = refl
+    go (suc u) = refl
+
+-- a plane that is on, or not
+pub shown-case : (P : Plane) (d : Pass) (k : ℕ) (Q : Plane → (List ℕ → List ℕ) → Type 0) (on : Bool) → (on ≡ true → Q P (sweepOf P d k))
+    → Q (shown false P) (λ s. s) → Q (shown on P) (sweepOf (shown on P) d k)
+shown-case P d k Q true h n = h refl
+shown-case P d k Q false h n = subst⁻¹ (Q (shown false P)) (λ q s. sweep-stays (shown false P) (shown-none P) d k s q) n
 
 pub sweeps-commute : (P : Plane) (d e : Pass) (j k : ℕ)
     → ((p q : Piece) → InRow P d j p → InRow P e k q → (s : List ℕ) → act P d p (act P e q s) ≡ act P e q (act P d p s))

@@ -20,6 +20,7 @@ use Rattle.frames.specs.Calls.{Frame, callAt, lentOf, answer, after, pla
 use Rattle.frames.specs.Promises.{OneCall, Demand, Promises}
 use Rattle.frames.proofs.Sweeps.{sweeps-commute}
 use Rattle.frames.proofs.Stays.{sweepCall, after-done, answers-stay}
+use Rattle.frames.proofs.Reach.{luma-reach, u-reach, v-reach}
 use Rattle.frames.proofs.Planes.{Sound, one-row, sound-luma, sound-u, sound-v}
 
 calls : (f : Frame) (d : Pass) (k : ℕ) (s t : Three (List ℕ)) (r : ℕ)
@@ -156,4 +157,5 @@ module _ (f : Frame) (s : Three (List ℕ)) (a : Accepted f s) (b : BoundariesKe
       }
 
 pub promises : Promises
-promises = record { calls = calls; answers-stay = answers-stay; demand = demand }
+promises =
+    record { calls = calls; answers-stay = answers-stay; luma-reach = luma-reach; u-reach = u-reach; v-reach = v-reach; demand = demand }

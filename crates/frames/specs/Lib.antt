@@ -1,7 +1,7 @@
 -- the gap rule over the whole frame
 pub mod Whole
--- the samples that a call looks at
-pub mod Looked
+-- the samples about a superblock row
+pub mod Within
 -- the calls of a frame
 pub mod Calls
 -- what is promised of them

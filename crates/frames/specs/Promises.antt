@@ -1,15 +1,19 @@
 -- Demand 3, of the calls.
+--   OneCall      each edge piece of a plane belongs to one call
+--   Reaches      how far a call reaches in a plane
 --   Demand       of one frame whose calls are all accepted and whose boundaries keep the rule with what is above them
 --   Promises     of all frames
 use mathlib.Core.List.{List}
 use mathlib.Core.Path.{_≡_}
 use Prim.Native.Nat.{ℕ, _<_}
+use lib.ListN.{getD}
 use Rattle.loops.specs.Run.{upTo}
 use Rattle.plane.specs.Line.{Pass, columns, rows, Piece}
 use Rattle.plane.specs.Plane.{Plane, IsPiece, InRow, rasterOf}
 use Rattle.plane.specs.Three.{Three}
 use Rattle.order.specs.Demand3.{Demand3, allOf, Orders}
 use Rattle.apply.specs.Apply.{FilterAnswer}
+use Rattle.frames.specs.Within.{Within, Agree}
 use Rattle.frames.specs.Calls.{Frame, callAt, lentOf, answer, after, planes, sbRows, Accepted, BoundariesKept}
 
 -- an edge piece belongs to exactly one superblock row, and so to exactly one call of its pass
@@ -40,10 +44,21 @@ pub record Demand (f : Frame) (s : Three (List ℕ)) : Type 0 where
   pub rows-commute : (j k : ℕ) → j < sbRows f → k < sbRows f → after f rows j (after f rows k s) ≡ after f rows k (after f rows j s)
   pub past : (k j : ℕ) → k < j → j < sbRows f → after f rows k (after f columns j s) ≡ after f columns j (after f rows k s)
 
+-- `part` is the plane's list among the three. In it a call changes samples of its row's lines and, in rows, of at most w above, and sees those and at most r above
+pub record Reaches (f : Frame) (P : Plane) (part : Three (List ℕ) → List ℕ) (w r : ℕ) : Type 0 where
+  pub changes : (d : Pass) (k : ℕ) (s : Three (List ℕ)) (i : ℕ) → ¬ Within P w d k i → getD (part (after f d k s)) i 0 ≡ getD (part s) i 0
+  pub sees : (d : Pass) (k : ℕ) (s t : Three (List ℕ)) → answer f d k s ≡ answer f d k t
+      → Agree P r d k (part s) (part t) → Agree P r d k (part (after f d k s)) (part (after f d k t))
+
 pub record Promises : Type 0 where
   -- what a call answers and leaves is what its contract says
   pub calls : (f : Frame) (d : Pass) (k : ℕ) (s t : Three (List ℕ)) (r : ℕ)
       → FilterAnswer (callAt f d k) (f .limits) (lentOf f s) r t → (r ≡ answer f d k s) × (t ≡ after f d k s)
   -- no call changes another's number, whatever the order
   pub answers-stay : (f : Frame) (d e : Pass) (j k : ℕ) (s : Three (List ℕ)) → answer f d j (after f e k s) ≡ answer f d j s
+  -- columns change only lines of their row, rows at most 6 above, and see at most 7; in chroma 2 and 3
+  pub luma-reach : (f : Frame) → Reaches f (planes f .luma) (λ s. s .luma) 6 7
+  pub u-reach : (f : Frame) → Reaches f (planes f .u) (λ s. s .u) 2 3
+  pub v-reach : (f : Frame) → Reaches f (planes f .v) (λ s. s .v) 2 3
+  -- and the order of the calls and of their pieces does not matter
   pub demand : (f : Frame) (s : Three (List ℕ)) → Accepted f s → BoundariesKept f → Demand f s

@@ -1,0 +1,97 @@
+-- How far a call reaches in each plane: where it is done its pieces write at most 6 samples a side and read 7, in chroma 2 and 3; a refused call changes nothing.
+use mathlib.Core.Path.{_≡_, refl, sym, ap, _∙_}
+use mathlib.Core.Bool.{Bool, true}
+use mathlib.Core.List.{List}
+use mathlib.Core.Logic.{by-cases}
+use Prim.Native.Nat.{ℕ, zero, suc, _≤_}
+use native.Mathlib.Decide.{ℕ-discrete}
+use native.Mathlib.Omega.{arith}
+use lib.ListN.{length, getD}
+use Rattle.plane.specs.Line.{Pass}
+use Rattle.plane.specs.Plane as plane
+use Rattle.plane.specs.Plane.{Plane}
+use Rattle.plane.specs.Three.{Three}
+use Rattle.filter.specs.declared.Component.{Component}
+use Rattle.filter.specs.Filter.{Tables, planeOf, sweepOf}
+use Rattle.checks.specs.Call.{chromaOn, luma}
+use Rattle.checks.proofs.Accepted.{filtered-u, filtered-v}
+use Rattle.apply.specs.Apply.{shown}
+use Rattle.frames.specs.Within.{Within, Agree}
+use Rattle.frames.specs.Calls.{Frame, callAt, answer, after, planes}
+use Rattle.frames.specs.Promises.{Reaches}
+use Rattle.frames.proofs.Regions.{sweep-outside, sweep-inside}
+use Rattle.frames.proofs.Sweeps.{shown-case}
+use Rattle.frames.proofs.Stays.{Done, done, sweepCall, after-done, after-refused}
+
+-- one plane, in a call that is done
+record Near (P : Plane) (w r : ℕ) (d : Pass) (k : ℕ) (s : List ℕ) (g : List ℕ → List ℕ) : Type 0 where
+  changes : (i : ℕ) → ¬ Within P w d k i → getD (g s) i 0 ≡ getD s i 0
+  sees : (t : List ℕ) → Agree P r d k s t → Agree P r d k (g s) (g t)
+
+near : (c : Component) (t : Tables) (w r : ℕ) → ((cls : ℕ) → planeOf c t .widths .writes cls ≤ w) → ((cls : ℕ) → planeOf c t .widths .reads cls ≤ r)
+    → (d : Pass) (k : ℕ) (s : List ℕ) → Done c t d k s → Near (planeOf c t) w r d k s (sweepOf (planeOf c t) d k)
+near c t w r few far d k s o =
+    record {
+      changes = sweep-outside c t (length s) (o .stored) k d (o .fit) w few s;
+      sees = sweep-inside c t (length s) (o .stored) k d (o .fit) r far s;
+    }
+
+near-shown : (P : Plane) (w r : ℕ) (d : Pass) (k : ℕ) (s : List ℕ) (on : Bool) → (on ≡ true → Near P w r d k s (sweepOf P d k))
+    → Near (shown on P) w r d k s (sweepOf (shown on P) d k)
+near-shown P w r d k s on h = shown-case P d k (λ R g. Near R w r d k s g) on h (record { changes = λ i _. refl; sees = λ t a. a })
+
+-- ---- a call
+
+module _ (f : Frame) (P : Plane) (part : Three (List ℕ) → List ℕ) (w r : ℕ)
+    (is : (d : Pass) (k : ℕ) (s : Three (List ℕ)) → part (sweepCall (planes f) d k s) ≡ sweepOf P d k (part s))
+    (h : (d : Pass) (k : ℕ) (s : Three (List ℕ)) → answer f d k s ≡ 0 → Near P w r d k (part s) (sweepOf P d k)) where
+  part-done : (d : Pass) (k : ℕ) (s : Three (List ℕ)) → answer f d k s ≡ 0 → part (after f d k s) ≡ sweepOf P d k (part s)
+  part-done d k s e = ap part (after-done f k s d e) ∙ is d k s
+
+  part-refused : (d : Pass) (k : ℕ) (s : Three (List ℕ)) → ¬ (answer f d k s ≡ 0) → part (after f d k s) ≡ part s
+  part-refused d k s n = ap part (after-refused f k s d n)
+
+  reaches : Reaches f P part w r
+  reaches =
+      record {
+        changes = λ d k s i n. by-cases (ℕ-discrete (answer f d k s) 0) (λ e. ap (λ l. getD l i 0) (part-done d k s e) ∙ h d k s e .changes i n)
+            (λ m. ap (λ l. getD l i 0) (part-refused d k s m));
+        sees = λ d k s t e a. by-cases (ℕ-discrete (answer f d k s) 0)
+            (λ z. rw (part-done d k s z, part-done d k t (sym e ∙ z)) (h d k s z .sees (part t) a))
+            (λ m. rw (part-refused d k s m, part-refused d k t (λ z. m (e ∙ z))) a);
+      }
+
+luma-writes : (cls : ℕ) → plane.luma .writes cls ≤ 6
+luma-writes zero = omega arith
+luma-writes (suc zero) = omega arith
+luma-writes (suc (suc cls)) = omega arith
+
+luma-reads : (cls : ℕ) → plane.luma .reads cls ≤ 7
+luma-reads zero = omega arith
+luma-reads (suc zero) = omega arith
+luma-reads (suc (suc cls)) = omega arith
+
+chroma-writes : (cls : ℕ) → plane.chroma .writes cls ≤ 2
+chroma-writes cls = omega arith
+
+chroma-reads : (cls : ℕ) → plane.chroma .reads cls ≤ 3
+chroma-reads zero = omega arith
+chroma-reads (suc cls) = omega arith
+
+module _ (f : Frame) where
+  pub luma-reach : Reaches f (planes f .luma) (λ s. s .luma) 6 7
+  luma-reach =
+      reaches f (planes f .luma) (λ s. s .luma) 6 7 (λ d k s. refl)
+      (λ d k s e. near _ _ 6 7 luma-writes luma-reads d k (s .luma) (done f k s d e luma))
+
+  pub u-reach : Reaches f (planes f .u) (λ s. s .u) 2 3
+  u-reach =
+      reaches f (planes f .u) (λ s. s .u) 2 3 (λ d k s. refl)
+      (λ d k s e. near-shown _ 2 3 d k (s .u) (chromaOn (f .head))
+      (λ o. near _ _ 2 3 chroma-writes chroma-reads d k (s .u) (done f k s d e (filtered-u (callAt f d k) o))))
+
+  pub v-reach : Reaches f (planes f .v) (λ s. s .v) 2 3
+  v-reach =
+      reaches f (planes f .v) (λ s. s .v) 2 3 (λ d k s. refl)
+      (λ d k s e. near-shown _ 2 3 d k (s .v) (chromaOn (f .head))
+      (λ o. near _ _ 2 3 chroma-writes chroma-reads d k (s .v) (done f k s d e (filtered-v (callAt f d k) o))))
