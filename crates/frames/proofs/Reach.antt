@@ -61,37 +61,35 @@ module _ (f : Frame) (P : Plane) (part : Three (List ℕ) → List ℕ) (w r : �
             (λ m. rw (part-refused d k s m, part-refused d k t (λ z. m (e ∙ z))) a);
       }
 
-luma-writes : (cls : ℕ) → plane.luma .writes cls ≤ 6
-luma-writes zero = omega arith
-luma-writes (suc zero) = omega arith
-luma-writes (suc (suc cls)) = omega arith
+-- the widest class writes and reads farthest
+luma-writes : (w : ℕ) → plane.luma .writes 2 ≤ w → (cls : ℕ) → plane.luma .writes cls ≤ w
+luma-writes w h zero = omega arith
+luma-writes w h (suc zero) = omega arith
+luma-writes w h (suc (suc cls)) = omega arith
 
-luma-reads : (cls : ℕ) → plane.luma .reads cls ≤ 7
-luma-reads zero = omega arith
-luma-reads (suc zero) = omega arith
-luma-reads (suc (suc cls)) = omega arith
+luma-reads : (r : ℕ) → plane.luma .reads 2 ≤ r → (cls : ℕ) → plane.luma .reads cls ≤ r
+luma-reads r h zero = omega arith
+luma-reads r h (suc zero) = omega arith
+luma-reads r h (suc (suc cls)) = omega arith
 
-chroma-writes : (cls : ℕ) → plane.chroma .writes cls ≤ 2
-chroma-writes cls = omega arith
+chroma-reads : (r : ℕ) → plane.chroma .reads 1 ≤ r → (cls : ℕ) → plane.chroma .reads cls ≤ r
+chroma-reads r h zero = omega arith
+chroma-reads r h (suc cls) = omega arith
 
-chroma-reads : (cls : ℕ) → plane.chroma .reads cls ≤ 3
-chroma-reads zero = omega arith
-chroma-reads (suc cls) = omega arith
+pub luma-reach : (f : Frame) (w r : ℕ) → plane.luma .writes 2 ≤ w → plane.luma .reads 2 ≤ r → Reaches f (planes f .luma) (λ s. s .luma) w r
+luma-reach f w r a b =
+    reaches f (planes f .luma) (λ s. s .luma) w r (λ d k s. refl)
+    (λ d k s e. near _ _ w r (luma-writes w a) (luma-reads r b) d k (s .luma) (done f k s d e luma))
 
-module _ (f : Frame) where
-  pub luma-reach : Reaches f (planes f .luma) (λ s. s .luma) 6 7
-  luma-reach =
-      reaches f (planes f .luma) (λ s. s .luma) 6 7 (λ d k s. refl)
-      (λ d k s e. near _ _ 6 7 luma-writes luma-reads d k (s .luma) (done f k s d e luma))
-
-  pub u-reach : Reaches f (planes f .u) (λ s. s .u) 2 3
+module _ (f : Frame) (w r : ℕ) (a : plane.chroma .writes 1 ≤ w) (b : plane.chroma .reads 1 ≤ r) where
+  pub u-reach : Reaches f (planes f .u) (λ s. s .u) w r
   u-reach =
-      reaches f (planes f .u) (λ s. s .u) 2 3 (λ d k s. refl)
-      (λ d k s e. near-shown _ 2 3 d k (s .u) (chromaOn (f .head))
-      (λ o. near _ _ 2 3 chroma-writes chroma-reads d k (s .u) (done f k s d e (filtered-u (callAt f d k) o))))
+      reaches f (planes f .u) (λ s. s .u) w r (λ d k s. refl)
+      (λ d k s e. near-shown _ w r d k (s .u) (chromaOn (f .head))
+      (λ o. near _ _ w r (λ cls. a) (chroma-reads r b) d k (s .u) (done f k s d e (filtered-u (callAt f d k) o))))
 
-  pub v-reach : Reaches f (planes f .v) (λ s. s .v) 2 3
+  pub v-reach : Reaches f (planes f .v) (λ s. s .v) w r
   v-reach =
-      reaches f (planes f .v) (λ s. s .v) 2 3 (λ d k s. refl)
-      (λ d k s e. near-shown _ 2 3 d k (s .v) (chromaOn (f .head))
-      (λ o. near _ _ 2 3 chroma-writes chroma-reads d k (s .v) (done f k s d e (filtered-v (callAt f d k) o))))
+      reaches f (planes f .v) (λ s. s .v) w r (λ d k s. refl)
+      (λ d k s e. near-shown _ w r d k (s .v) (chromaOn (f .head))
+      (λ o. near _ _ w r (λ cls. a) (chroma-reads r b) d k (s .v) (done f k s d e (filtered-v (callAt f d k) o))))

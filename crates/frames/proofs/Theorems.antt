@@ -153,9 +153,16 @@ module _ (f : Frame) (s : Three (List ℕ)) (a : Accepted f s) (b : BoundariesKe
         standard = standard;
         columns-commute = same-commute columns;
         rows-commute = same-commute rows;
-        past = past;
+        past = λ k j h x. past k j (omega arith) x;
       }
 
 pub promises : Promises
 promises =
-    record { calls = calls; answers-stay = answers-stay; luma-reach = luma-reach; u-reach = u-reach; v-reach = v-reach; demand = demand }
+    record {
+      calls = calls;
+      answers-stay = answers-stay;
+      luma-reach = λ f. luma-reach f _ _ (omega arith) (omega arith);
+      u-reach = λ f. u-reach f _ _ (omega arith) (omega arith);
+      v-reach = λ f. v-reach f _ _ (omega arith) (omega arith);
+      demand = demand;
+    }
