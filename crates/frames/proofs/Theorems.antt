@@ -19,7 +19,7 @@ use Rattle.apply.specs.Apply.{FilterAnswer, passCall}
 use Rattle.frames.specs.Calls.{Frame, callAt, lentOf, answer, after, planes, sbRows, Accepted, BoundariesKept}
 use Rattle.frames.specs.Promises.{OneCall, Demand, Promises}
 use Rattle.frames.proofs.Sweeps.{sweeps-commute}
-use Rattle.frames.proofs.Stays.{sweepCall, after-done, answers-stay}
+use Rattle.frames.proofs.Stays.{sweepCall, after-done, after-refused, answers-stay}
 use Rattle.frames.proofs.Reach.{luma-reach, u-reach, v-reach}
 use Rattle.frames.proofs.Planes.{Sound, one-row, sound-luma, sound-u, sound-v}
 
@@ -41,20 +41,31 @@ upTo-while Q f g (suc n) q h s x =
     h n (omega arith) (upTo f n s) (upTo-holds Q f n (λ i l. q i (omega arith)) s x)
     ∙ ap (g n) (upTo-while Q f g n (λ i l. q i (omega arith)) (λ i l. h i (omega arith)) s x)
 
-module _ (f : Frame) where
+module _ (f : Frame) (d e : Pass) (j k : ℕ) (s : Three (List ℕ)) where
   -- two calls
-  two : (d e : Pass) (j k : ℕ) (s : Three (List ℕ)) → Accepted f s → j < sbRows f → k < sbRows f
-      → after f d j (after f e k s) ≡ sweepCall (planes f) d j (sweepCall (planes f) e k s)
-  two d e j k s a x y =
-      after-done f j (after f e k s) d (stays-accepted f s e k a .all d j x) ∙ ap (sweepCall (planes f) d j) (after-done f k s e (a .all e k y))
+  two : answer f d j s ≡ 0 → answer f e k s ≡ 0 → after f d j (after f e k s) ≡ sweepCall (planes f) d j (sweepCall (planes f) e k s)
+  two x y = after-done f j (after f e k s) d (answers-stay f d e j k s ∙ x) ∙ ap (sweepCall (planes f) d j) (after-done f k s e y)
 
-  -- all calls in turn
-  all-calls : (s : Three (List ℕ)) → Accepted f s
-      → upTo (λ k t. after f rows k (after f columns k t)) (sbRows f) s
-      ≡ upTo (λ k t. sweepCall (planes f) rows k (sweepCall (planes f) columns k t)) (sbRows f) s
-  all-calls =
-      upTo-while (Accepted f) _ _ (sbRows f) (λ k h t a. stays-accepted f (after f columns k t) rows k (stays-accepted f t columns k a))
-      (λ k h t a. two rows columns k k t a h h)
+  -- of which the first is refused, with or without the second
+  refused : ¬ (answer f d j s ≡ 0) → after f d j (after f e k s) ≡ after f e k (after f d j s)
+  refused n = after-refused f j (after f e k s) d (λ x. n (sym (answers-stay f d e j k s) ∙ x)) ∙ ap (after f e k) (sym (after-refused f j s d n))
+
+-- two calls change places if their passes do
+module _ (f : Frame) (d e : Pass) (j k : ℕ) (s : Three (List ℕ)) where
+  change-places : sweepCall (planes f) d j (sweepCall (planes f) e k s) ≡ sweepCall (planes f) e k (sweepCall (planes f) d j s)
+      → after f d j (after f e k s) ≡ after f e k (after f d j s)
+  change-places c =
+      by-cases (ℕ-discrete (answer f d j s) 0)
+      (λ x. by-cases (ℕ-discrete (answer f e k s) 0) (λ y. two f d e j k s x y ∙ c ∙ sym (two f e d k j s y x)) (λ n. sym (refused f e d k j s n)))
+      (refused f d e j k s)
+
+-- all calls in turn
+all-calls : (f : Frame) (s : Three (List ℕ)) → Accepted f s
+    → upTo (λ k t. after f rows k (after f columns k t)) (sbRows f) s
+    ≡ upTo (λ k t. sweepCall (planes f) rows k (sweepCall (planes f) columns k t)) (sbRows f) s
+all-calls f =
+    upTo-while (Accepted f) _ _ (sbRows f) (λ k h t a. stays-accepted f (after f columns k t) rows k (stays-accepted f t columns k a))
+    (λ k h t a. two f rows columns k k t (a .all rows k h) (a .all columns k h))
 
 -- ---- plane by plane
 
@@ -119,26 +130,24 @@ module _ (f : Frame) (s : Three (List ℕ)) (a : Accepted f s) (b : BoundariesKe
       ∙ turns (planes f) (sbRows f) s
       ∙ (λ q. record { luma = Y .demand .standard-order (s .luma) q; u = U .demand .standard-order (s .u) q; v = W .demand .standard-order (s .v) q })
 
-  same-commute : (d : Pass) (j k : ℕ) → j < sbRows f → k < sbRows f → after f d j (after f d k s) ≡ after f d k (after f d j s)
-  same-commute d j k x y =
+  same-commute : (d : Pass) (j k : ℕ) → after f d j (after f d k s) ≡ after f d k (after f d j s)
+  same-commute d j k =
       by-cases (ℕ-discrete j k) (λ e. rw e refl)
-      (λ n. two f d d j k s a x y
-      ∙ (λ q. record {
+      (λ n. change-places f d d j k s
+      (λ q. record {
         luma = same-pass (planes f .luma) Y d j k n (s .luma) q;
         u = same-pass (planes f .u) U d j k n (s .u) q;
         v = same-pass (planes f .v) W d j k n (s .v) q;
-      })
-      ∙ sym (two f d d k j s a y x))
+      }))
 
-  past : (k j : ℕ) → k < j → j < sbRows f → after f rows k (after f columns j s) ≡ after f columns j (after f rows k s)
-  past k j h x =
-      two f rows columns k j s a (omega arith) x
-      ∙ (λ q. record {
-        luma = sym (sweeps-commute (planes f .luma) columns rows j k (Y .past k j h) (s .luma)) q;
-        u = sym (sweeps-commute (planes f .u) columns rows j k (U .past k j h) (s .u)) q;
-        v = sym (sweeps-commute (planes f .v) columns rows j k (W .past k j h) (s .v)) q;
-      })
-      ∙ sym (two f columns rows j k s a x (omega arith))
+  past : (k j : ℕ) → k < j → after f rows k (after f columns j s) ≡ after f columns j (after f rows k s)
+  past k j h =
+      sym (change-places f columns rows j k s
+      (λ q. record {
+        luma = sweeps-commute (planes f .luma) columns rows j k (Y .past k j h) (s .luma) q;
+        u = sweeps-commute (planes f .u) columns rows j k (U .past k j h) (s .u) q;
+        v = sweeps-commute (planes f .v) columns rows j k (W .past k j h) (s .v) q;
+      }))
 
   demand : Demand f s
   demand =
@@ -153,7 +162,7 @@ module _ (f : Frame) (s : Three (List ℕ)) (a : Accepted f s) (b : BoundariesKe
         standard = standard;
         columns-commute = same-commute columns;
         rows-commute = same-commute rows;
-        past = λ k j h x. past k j (omega arith) x;
+        past = λ k j h. past k j (omega arith);
       }
 
 pub promises : Promises

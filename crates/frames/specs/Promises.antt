@@ -40,9 +40,9 @@ pub record Demand (f : Frame) (s : Three (List ℕ)) : Type 0 where
         v = rasterOf (planes f .v) rows (rasterOf (planes f .v) columns (s .v));
       }
   -- two workers: which calls may change places
-  pub columns-commute : (j k : ℕ) → j < sbRows f → k < sbRows f → after f columns j (after f columns k s) ≡ after f columns k (after f columns j s)
-  pub rows-commute : (j k : ℕ) → j < sbRows f → k < sbRows f → after f rows j (after f rows k s) ≡ after f rows k (after f rows j s)
-  pub past : (k j : ℕ) → k < j → j < sbRows f → after f rows k (after f columns j s) ≡ after f columns j (after f rows k s)
+  pub columns-commute : (j k : ℕ) → after f columns j (after f columns k s) ≡ after f columns k (after f columns j s)
+  pub rows-commute : (j k : ℕ) → after f rows j (after f rows k s) ≡ after f rows k (after f rows j s)
+  pub past : (k j : ℕ) → k < j → after f rows k (after f columns j s) ≡ after f columns j (after f rows k s)
 
 -- `part` is the plane's list among the three. In it a call changes samples of its row's lines and, in rows, of at most w above, and sees those and at most r above
 pub record Reaches (f : Frame) (P : Plane) (part : Three (List ℕ) → List ℕ) (w r : ℕ) : Type 0 where
