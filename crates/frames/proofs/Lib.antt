@@ -6,3 +6,4 @@ pub mod Stays
 pub mod Planes
 pub mod Reach
 pub mod Theorems
+pub mod Example
