@@ -1,2 +1,3 @@
 pub mod Readies
 pub mod Answers
+pub mod Laws

@@ -14,6 +14,7 @@ ghost use mathlib.Core.Path.{_≡_};
 ghost use mathlib.Core.Bool.{true, false};
 ghost use Rattle.filter.specs.Filter.{tables};
 ghost use Rattle.checks.specs.Call.{lent, chromaOn, Shaped};
+ghost use Rattle.apply.specs.Promises.{Promises};
 ghost use Rattle.apply.specs.Apply.{componentOf, limits, three, callOf, Ready, Ready16, swept, sweptIf, FilterAnswer};
 
 fn component(c: Call, n: usize) -> Component
@@ -324,3 +325,8 @@ pub fn rows_16(
     };
     filter_16(luma, u, v, c, levels, masks, e, i)
 }
+
+// The theorems of specs/Promises.antt are proved.
+pub fn promised()
+    ensures { λ _. ⌜ Promises ⌝ }
+{}
