@@ -1,0 +1,51 @@
+-- A level byte recorded from the values of a segment is what `levels` left for it, and that is the standard's.
+use Prim.Native.Nat.{ℕ, _+_, _*_, _<_}
+use native.Mathlib.Decide.{decLt}
+use native.Mathlib.Omega.{arith}
+use mathlib.Core.List.{List}
+use mathlib.Core.Logic.{by-cases, ⊎-elim}
+use mathlib.Core.Path.{_≡_, refl, ap, _∙_}
+use lib.ListN.{getD}
+use Rattle.units.specs.Memory.{levelAt}
+use Rattle.levels.specs.Levels.{LevelsIn, LevelsAnswer}
+use Rattle.levels.specs.Promises.{Place, byte}
+use Rattle.levels.proofs.Answers as levels
+use Rattle.block.specs.declared.Block.{Block}
+use Rattle.block.specs.Block.{Lent}
+use Rattle.block.specs.Faults.{BlockFault, reference, reference-above}
+use Rattle.record.specs.Record.{RecordAnswer}
+use Rattle.record.specs.Recorded.{Seen, luma, chroma}
+use Rattle.record.proofs.Answers as recording
+use Rattle.joined.specs.Level.{Segment, Referred, Level}
+
+kind-lt : {b : Block} {x y kind : ℕ} → Seen b x y kind → kind < 4
+kind-lt (luma h s) = omega arith
+kind-lt (chroma h s) = omega (arith, h .1)
+
+-- number 5 refuses a reference above 7
+reference-lt : (b : Block) → Referred b → ¬ BlockFault b → b .reference < 8
+reference-lt b r n =
+    by-cases (decLt 7 (b .reference))
+    (λ h. ⊎-elim (λ i. absurd (n (reference (reference-above i h)))) (λ z. omega arith) (r .reference))
+    (λ h. omega arith)
+
+pub level-is : (layout : ℕ) (x : LevelsIn) (old all : List ℕ) → LevelsAnswer layout x 0 old all
+    → (s : ℕ) (values : List ℕ) → Segment x s all values
+    → (b : Block) (stride : ℕ) (tm : List ℕ) (before after : Lent) → Referred b → RecordAnswer b stride values tm 0 before after
+    → (x4 y4 kind : ℕ) → Seen b x4 y4 kind → Level x s kind (b .reference) (b .mode) (getD (after .levels) (levelAt stride x4 y4 kind) 0)
+level-is layout x old all a s values g b stride tm before after r c x4 y4 kind seen =
+    let l = levels.promises .each layout x 0 old all a in
+    let w = recording.promises .each b stride values tm 0 before after c in
+    let k = kind-lt seen in
+    let q = reference-lt b r (w .zero .only refl .2) in
+    let p : Place x s kind (b .reference) (b .mode) =
+    record { segment = g .below; in-use = g .in-use; kind = k; reference = q; mode = r .mode } in
+    let e : getD (after .levels) (levelAt stride x4 y4 kind) 0 ≡ byte all s kind (b .reference) (b .mode) =
+    w .accepted refl .levels .stored x4 y4 kind seen
+    ∙ g .its ((kind * 8 + b .reference) * 2 + b .mode) (omega (arith, r .mode))
+    ∙ ap (λ (i : ℕ). getD all i 0) (omega arith) in
+    record {
+      no-luma = λ y z. e ∙ l .no-luma refl y z s kind (b .reference) (b .mode) p;
+      no-chroma = λ h z. e ∙ l .no-chroma refl s kind (b .reference) (b .mode) p h z;
+      standard = λ h z. e ∙ l .value refl h s kind (b .reference) (b .mode) p z;
+    }

@@ -1,0 +1,17 @@
+-- `promised` meets its contract: the promises are proved in Pieces and Levels.
+use Rattle.joined.proofs.Pieces.{limits-are, no-level, piece-is}
+use Rattle.joined.specs.Promises.{limitsIn}
+use Rattle.joined.proofs.Levels.{level-is}
+use Rattle.joined.proofs.promised.Statement.{statement}
+use Rattle.joined.proofs.promised.Tie as tie
+
+returns : tie.Need-returns
+returns c =
+    record {
+      no-level = no-level;
+      piece = λ sharp a e z c m n d p cls s is o h ok. piece-is c (limitsIn a) m n d p s sharp cls (limits-are sharp a e z) is o h ok;
+      level = level-is;
+    }
+
+pub promised-spec : {M : Type 1} → statement M
+promised-spec = tie.close (tie.spec returns)

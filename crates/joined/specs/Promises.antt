@@ -1,0 +1,56 @@
+-- What holds of the calls joined.
+--   limitsIn a       e and i of an answer of `limits`
+--   levelAt          the level used at a piece of plane n
+--   lenAt n cls      the width of a class in plane n
+--   Promises         the promises, one a field
+use mathlib.Core.Bool.{not}
+use mathlib.Core.List.{List}
+use mathlib.Core.Option.{some}
+use mathlib.Core.Path.{_≡_}
+use Prim.Native.Nat.{ℕ, _≤_}
+use lib.Dec.{eqb}
+use lib.ListN.{length, getD}
+use Rattle.plane.specs.Line.{Pass, Piece}
+use Rattle.plane.specs.Plane.{class, act}
+use Rattle.standard.specs.Strength.{bounds}
+use Rattle.line.specs.Width.{reads}
+use Rattle.limits.specs.declared.LimitAnswer.{LimitAnswer}
+use Rattle.limits.specs.Limits.{limitsOf}
+use Rattle.walk.specs.Walk.{lenOf}
+use Rattle.filter.specs.Filter.{levelOf}
+use Rattle.checks.specs.declared.Call.{Call}
+use Rattle.checks.specs.Call.{Lent, strideOf}
+use Rattle.apply.specs.Apply.{componentOf, Limits, tablesOf, planeAt}
+use Rattle.units.specs.Memory as memory
+use Rattle.levels.specs.Levels.{LevelsIn, LevelsAnswer}
+use Rattle.block.specs.declared.Block.{Block}
+use Rattle.block.specs.Block as block
+use Rattle.record.specs.Record.{RecordAnswer}
+use Rattle.record.specs.Recorded.{Seen}
+use Rattle.joined.specs.Piece.{There, Standard}
+use Rattle.joined.specs.Level.{Segment, Referred, Level}
+
+abbrev pub limitsIn : LimitAnswer → Limits
+limitsIn a = record { e = a .table .e; i = a .table .i }
+
+abbrev pub levelAt : Call → Limits → Lent → ℕ → Pass → Piece → ℕ
+levelAt c l m n = levelOf (componentOf c n) (tablesOf c l m)
+
+abbrev pub lenAt : ℕ → ℕ → ℕ
+lenAt n = lenOf (not (eqb n 0))
+
+pub record Promises : Type 0 where
+  -- at level 0 a piece changes nothing
+  pub no-level : (c : Call) (l : Limits) (m : Lent) (n : ℕ) (d : Pass) (p : Piece) (s : List ℕ)
+      → levelAt c l m n d p ≡ 0 → act (planeAt c l m n) d p s ≡ s
+  -- at another it is the standard's, with the limit table that `limits` leaves for a sharpness
+  pub piece : (sharp : ℕ) (a : LimitAnswer) → a ≡ limitsOf sharp → a .number ≡ 0 → (c : Call) (m : Lent) (n : ℕ) (d : Pass) (p : Piece) (cls : ℕ) (s : List ℕ)
+      → class (planeAt c (limitsIn a) m n) d p ≡ some cls
+      → ¬ (levelAt c (limitsIn a) m n d p ≡ 0) → levelAt c (limitsIn a) m n d p ≤ 63
+      → There d (strideOf c n) (reads (lenAt n cls)) p (length s)
+      → Standard d (strideOf c n) (lenAt n cls) (bounds (c .depth) sharp (levelAt c (limitsIn a) m n d p)) p s (act (planeAt c (limitsIn a) m n) d p s)
+  -- every level byte of a visible unit of a block recorded with what `levels` leaves is the standard's
+  pub level : (layout : ℕ) (x : LevelsIn) (old all : List ℕ) → LevelsAnswer layout x 0 old all
+      → (s : ℕ) (values : List ℕ) → Segment x s all values
+      → (b : Block) (stride : ℕ) (tm : List ℕ) (before after : block.Lent) → Referred b → RecordAnswer b stride values tm 0 before after
+      → (x4 y4 kind : ℕ) → Seen b x4 y4 kind → Level x s kind (b .reference) (b .mode) (getD (after .levels) (memory.levelAt stride x4 y4 kind) 0)
