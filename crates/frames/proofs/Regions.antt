@@ -88,7 +88,7 @@ module _ (c : Component) (t : Tables) (len : ℕ) (s : Stored c t len) (k : ℕ)
           up : (j : ℕ) → k ≡ suc j → P .sb ≤ k * P .sb
           up j e = rw e (omega (arith, suc-mul j (P .sb)))
 
-  far : (d : Pass) → Fit c t d k → (p : Piece) (cls : ℕ) → InRow P d k p → class P d p ≡ some cls → Far d (R cls) p
+  pub far : (d : Pass) → Fit c t d k → (p : Piece) (cls : ℕ) → InRow P d k p → class P d p ≡ some cls → Far d (R cls) p
   far columns f p cls r e = let x = inner-some (p .0) (P .edge columns p) cls e in far-columns f p cls r (x .0) (x .1)
   far rows f p cls r e = let x = inner-some (p .0) (P .edge rows p) cls e in far-rows f p cls r (x .0) (x .1)
 

@@ -1,3 +1,4 @@
 pub mod Lines
 pub mod Pieces
+pub mod Asked
 pub mod Levels

@@ -11,7 +11,7 @@ use Prim.Native.Nat.{ℕ, _≤_}
 use lib.Dec.{eqb}
 use lib.ListN.{length, getD}
 use Rattle.plane.specs.Line.{Pass, Piece}
-use Rattle.plane.specs.Plane.{class, act}
+use Rattle.plane.specs.Plane.{class, act, InRow}
 use Rattle.standard.specs.Strength.{bounds}
 use Rattle.line.specs.Width.{reads}
 use Rattle.limits.specs.declared.LimitAnswer.{LimitAnswer}
@@ -19,7 +19,8 @@ use Rattle.limits.specs.Limits.{limitsOf}
 use Rattle.walk.specs.Walk.{lenOf}
 use Rattle.filter.specs.Filter.{levelOf}
 use Rattle.checks.specs.declared.Call.{Call}
-use Rattle.checks.specs.Call.{Lent, strideOf}
+use Rattle.checks.specs.Call.{Lent, samples, passOf, strideOf, Filtered}
+use Rattle.checks.specs.Tests.{number}
 use Rattle.apply.specs.Apply.{componentOf, Limits, tablesOf, planeAt}
 use Rattle.units.specs.Memory as memory
 use Rattle.levels.specs.Levels.{LevelsIn, LevelsAnswer}
@@ -49,6 +50,11 @@ pub record Promises : Type 0 where
       → ¬ (levelAt c (limitsIn a) m n d p ≡ 0) → levelAt c (limitsIn a) m n d p ≤ 63
       → There d (strideOf c n) (reads (lenAt n cls)) p (length s)
       → Standard d (strideOf c n) (lenAt n cls) (bounds (c .depth) sharp (levelAt c (limitsIn a) m n d p)) p s (act (planeAt c (limitsIn a) m n) d p s)
+  -- so is every edge piece of an accepted call, in any list as long as its plane's
+  pub call : (sharp : ℕ) (a : LimitAnswer) → a ≡ limitsOf sharp → a .number ≡ 0 → (c : Call) (m : Lent) (n : ℕ) → number c m ≡ 0 → Filtered c n
+      → (p : Piece) (cls : ℕ) (s : List ℕ) → InRow (planeAt c (limitsIn a) m n) (passOf c) (c .row) p → class (planeAt c (limitsIn a) m n) (passOf c) p ≡ some cls
+      → length s ≡ length (samples m n) → ¬ (levelAt c (limitsIn a) m n (passOf c) p ≡ 0)
+      → Standard (passOf c) (strideOf c n) (lenAt n cls) (bounds (c .depth) sharp (levelAt c (limitsIn a) m n (passOf c) p)) p s (act (planeAt c (limitsIn a) m n) (passOf c) p s)
   -- every level byte of a visible unit of a block recorded with what `levels` leaves is the standard's
   pub level : (layout : ℕ) (x : LevelsIn) (old all : List ℕ) → LevelsAnswer layout x 0 old all
       → (s : ℕ) (values : List ℕ) → Segment x s all values

@@ -1,6 +1,8 @@
--- `promised` meets its contract: the promises are proved in Pieces and Levels.
+-- `promised` meets its contract: the promises are proved in Pieces, Asked and Levels.
+use Rattle.checks.specs.Call.{passOf}
 use Rattle.joined.proofs.Pieces.{limits-are, no-level, piece-is}
 use Rattle.joined.specs.Promises.{limitsIn}
+use Rattle.joined.proofs.Asked.{asked}
 use Rattle.joined.proofs.Levels.{level-is}
 use Rattle.joined.proofs.promised.Statement.{statement}
 use Rattle.joined.proofs.promised.Tie as tie
@@ -10,6 +12,9 @@ returns c =
     record {
       no-level = no-level;
       piece = λ sharp a e z c m n d p cls s is o h ok. piece-is c (limitsIn a) m n d p s sharp cls (limits-are sharp a e z) is o h ok;
+      call = λ sharp a e z c m n g f p cls s r is long o.
+          let k = asked c (limitsIn a) m n g f p cls r is in
+          piece-is c (limitsIn a) m n (passOf c) p s sharp cls (limits-are sharp a e z) is o (k .0) (rw long (k .1));
       level = level-is;
     }
 
