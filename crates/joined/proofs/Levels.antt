@@ -2,10 +2,12 @@
 use Prim.Native.Nat.{ℕ, _+_, _*_, _<_}
 use native.Mathlib.Decide.{decLt}
 use native.Mathlib.Omega.{arith}
+use mathlib.Core.Bool.{Bool, true, false}
 use mathlib.Core.List.{List}
-use mathlib.Core.Logic.{by-cases, ⊎-elim}
+use mathlib.Core.Logic.{inl, inr, by-cases, ⊎-elim}
 use mathlib.Core.Path.{_≡_, refl, ap, _∙_}
 use lib.ListN.{getD}
+use mir.Val.{boolByte}
 use Rattle.units.specs.Memory.{levelAt}
 use Rattle.levels.specs.Levels.{LevelsIn, LevelsAnswer}
 use Rattle.levels.specs.Promises.{Place, byte}
@@ -13,10 +15,25 @@ use Rattle.levels.proofs.Answers as levels
 use Rattle.block.specs.declared.Block.{Block}
 use Rattle.block.specs.Block.{Lent}
 use Rattle.block.specs.Faults.{BlockFault, reference, reference-above}
-use Rattle.record.specs.Record.{RecordAnswer}
+use Rattle.record.specs.Record.{on, intraOf, interOf, RecordAnswer}
 use Rattle.record.specs.Recorded.{Seen, luma, chroma}
 use Rattle.record.proofs.Answers as recording
 use Rattle.joined.specs.Level.{Segment, Referred, Level}
+
+-- ---- the block of a call
+
+pub intra : (width height layout x y size tx chroma uvtx : ℕ) → Referred (intraOf width height layout x y size tx chroma uvtx)
+intra _ _ _ _ _ _ _ _ _ = record { reference = inr refl; mode = omega arith }
+
+pub inter : (width height layout x y size tx chroma uvtx skip reference mode : ℕ)
+    → Referred (interOf width height layout x y size tx chroma uvtx skip reference mode)
+inter _ _ _ _ _ _ _ _ _ _ _ mode = record { reference = inl refl; mode = flag (on mode) }
+  where
+    flag : (b : Bool) → boolByte b < 2
+    flag true = omega arith
+    flag false = omega arith
+
+-- ---- its level bytes
 
 kind-lt : {b : Block} {x y kind : ℕ} → Seen b x y kind → kind < 4
 kind-lt (luma h s) = omega arith

@@ -26,7 +26,7 @@ use Rattle.units.specs.Memory as memory
 use Rattle.levels.specs.Levels.{LevelsIn, LevelsAnswer}
 use Rattle.block.specs.declared.Block.{Block}
 use Rattle.block.specs.Block as block
-use Rattle.record.specs.Record.{RecordAnswer}
+use Rattle.record.specs.Record.{intraOf, interOf, RecordAnswer}
 use Rattle.record.specs.Recorded.{Seen}
 use Rattle.joined.specs.Piece.{There, Standard}
 use Rattle.joined.specs.Level.{Segment, Referred, Level}
@@ -60,3 +60,7 @@ pub record Promises : Type 0 where
       → (s : ℕ) (values : List ℕ) → Segment x s all values
       → (b : Block) (stride : ℕ) (tm : List ℕ) (before after : block.Lent) → Referred b → RecordAnswer b stride values tm 0 before after
       → (x4 y4 kind : ℕ) → Seen b x4 y4 kind → Level x s kind (b .reference) (b .mode) (getD (after .levels) (memory.levelAt stride x4 y4 kind) 0)
+  -- both calls that record give such a block
+  pub intra : (width height layout x y size tx chroma uvtx : ℕ) → Referred (intraOf width height layout x y size tx chroma uvtx)
+  pub inter : (width height layout x y size tx chroma uvtx skip reference mode : ℕ)
+      → Referred (interOf width height layout x y size tx chroma uvtx skip reference mode)

@@ -3,7 +3,7 @@ use Rattle.checks.specs.Call.{passOf}
 use Rattle.joined.proofs.Pieces.{limits-are, no-level, piece-is}
 use Rattle.joined.specs.Promises.{limitsIn}
 use Rattle.joined.proofs.Asked.{asked}
-use Rattle.joined.proofs.Levels.{level-is}
+use Rattle.joined.proofs.Levels.{intra, inter, level-is}
 use Rattle.joined.proofs.promised.Statement.{statement}
 use Rattle.joined.proofs.promised.Tie as tie
 
@@ -16,6 +16,8 @@ returns c =
           let k = asked c (limitsIn a) m n g f p cls r is in
           piece-is c (limitsIn a) m n (passOf c) p s sharp cls (limits-are sharp a e z) is o (k .0) (rw long (k .1));
       level = level-is;
+      intra = intra;
+      inter = inter;
     }
 
 pub promised-spec : {M : Type 1} → statement M
