@@ -4,6 +4,21 @@ use crate::say::number;
 use crate::say::text;
 use std::num::wrapping_add_usize;
 
+// Where the words of a unit's row edges start.
+pub fn luma_rows(unit: usize) -> usize
+    requires { ⌜ unit < 32 ⌝ }
+    ensures { λ r. ⌜ r < 384 ⌝ }
+{
+    (32 + unit) * 6
+}
+
+pub fn chroma_rows(unit: usize) -> usize
+    requires { ⌜ unit < 32 ⌝ }
+    ensures { λ r. ⌜ r < 640 ⌝ }
+{
+    384 + (32 + unit) * 4
+}
+
 // 0 outside.
 fn word(masks: &[u16; 640], at: usize) -> u16 {
     if at < 640 { masks[at] } else { 0 }
@@ -59,17 +74,18 @@ fn any(masks: &[u16; 640], at: usize) -> u16
 fn near_luma(masks: &[u16; 640], half: usize) -> usize
     requires { ⌜ half < 2 ⌝ }
 {
-    let two = word(masks, 292 + half);
-    let wide = word(masks, 290 + half) | two;
-    let farther = any(masks, 276 + half) | any(masks, 270 + half);
-    ones(wide & any(masks, 282 + half) | two & farther)
+    let one = word(masks, luma_rows(16) + 2 + half);
+    let two = word(masks, luma_rows(16) + 4 + half);
+    let farther = any(masks, luma_rows(14) + half) | any(masks, luma_rows(13) + half);
+    ones((one | two) & any(masks, luma_rows(15) + half) | two & farther)
 }
 
 // Of chroma unit 8, of class 1 beside unit 7.
 fn near_chroma(masks: &[u16; 640], half: usize) -> usize
     requires { ⌜ half < 2 ⌝ }
 {
-    ones(word(masks, 546 + half) & (word(masks, 540 + half) | word(masks, 542 + half)))
+    let above = word(masks, chroma_rows(7) + half) | word(masks, chroma_rows(7) + 2 + half);
+    ones(word(masks, chroma_rows(8) + 2 + half) & above)
 }
 
 // Row edges on the superblock boundary that break the gap rule with the edge above.
@@ -80,16 +96,20 @@ pub fn near(masks: &[u16; 640]) -> usize {
 }
 
 fn boundary_word(masks: &[u16; 640], at: usize) -> u16 {
-    if at < 288 {
+    if at < luma_rows(16) {
         return 0;
     }
-    if at < 294 {
+    if at < luma_rows(17) {
         return word(masks, at);
     }
-    if at < 544 {
+    if at < chroma_rows(8) {
         return 0;
     }
-    if at < 548 { word(masks, at) } else { 0 }
+    if at < chroma_rows(9) {
+        word(masks, at)
+    } else {
+        0
+    }
 }
 
 // The row edges of luma unit 16 and of chroma unit 8, and no other.

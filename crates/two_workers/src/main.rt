@@ -8,6 +8,8 @@ mod witness;
 
 use calls::call;
 use calls::four;
+use counts::chroma_rows;
+use counts::luma_rows;
 use planes::say_checksums;
 use planes::say_column;
 use planes::say_differing;
@@ -20,19 +22,19 @@ fn say_edges(masks: &[u16; 640]) {
     text(b"luma column edges of class 0, 1, 2: ");
     counts::say_luma(masks, 6, 31);
     text(b"luma row edges: ");
-    counts::say_luma(masks, 198, 31);
+    counts::say_luma(masks, luma_rows(1), 31);
     text(b"luma row edges at unit 15: ");
-    counts::say_luma(masks, 282, 1);
+    counts::say_luma(masks, luma_rows(15), 1);
     text(b"luma row edges at unit 16, the boundary: ");
-    counts::say_luma(masks, 288, 1);
+    counts::say_luma(masks, luma_rows(16), 1);
     text(b"luma row edges at unit 17: ");
-    counts::say_luma(masks, 294, 1);
+    counts::say_luma(masks, luma_rows(17), 1);
     text(b"chroma column edges of class 0, 1: ");
     counts::say_chroma(masks, 388, 15);
     text(b"chroma row edges: ");
-    counts::say_chroma(masks, 516, 15);
+    counts::say_chroma(masks, chroma_rows(1), 15);
     text(b"chroma row edges at unit 8, the boundary: ");
-    counts::say_chroma(masks, 544, 1);
+    counts::say_chroma(masks, chroma_rows(8), 1);
 }
 
 fn say_rule(masks: &[u16; 640]) {
@@ -67,7 +69,7 @@ fn ordered(
     let mut u2 = witness::chroma(false);
     let mut v2 = witness::chroma(true);
     four(a, b, c, d, &mut luma2, &mut u2, &mut v2, levels, masks);
-    text(b"samples that differ from the first order's: ");
+    text(b"luma, U, V samples that differ from the first order's: ");
     say_differing(&luma2, &u2, &v2, luma, u, v);
     text(b"\n");
 }
@@ -82,6 +84,9 @@ fn orders(levels: &[u8; 4096], masks: &[u16; 640]) {
     ordered(0, 1, 3, 2, &luma, &u, &v, levels, masks);
     ordered(1, 0, 2, 3, &luma, &u, &v, levels, masks);
     ordered(1, 0, 3, 2, &luma, &u, &v, levels, masks);
+    text(b"orders that demand 3 does not allow:\n");
+    ordered(2, 0, 1, 3, &luma, &u, &v, levels, masks);
+    ordered(1, 3, 0, 2, &luma, &u, &v, levels, masks);
 }
 
 fn stair(line: usize) -> u8 {
@@ -98,8 +103,8 @@ fn stairs() -> [u8; 16384] {
 
 fn unruly_masks() -> [u16; 640] {
     let mut masks = [0u16; 640];
-    masks[((32 + 15) * 3 + 0) * 2] = 1;
-    masks[((32 + 16) * 3 + 2) * 2] = 1;
+    masks[luma_rows(15)] = 1;
+    masks[luma_rows(16) + 4] = 1;
     masks
 }
 
@@ -168,7 +173,7 @@ fn two_workers(levels: &[u8; 4096], masks: &[u16; 640]) {
     let mut u = witness::chroma(false);
     let mut v = witness::chroma(true);
     four(0, 1, 2, 3, &mut luma, &mut u, &mut v, levels, masks);
-    text(b"right\n");
+    text(b"these planes are right\n");
     let boundary = counts::boundary(masks);
     twice(&boundary, &luma, &u, &v, levels, masks);
     text(b"4. The first frame, with rows 1 called twice\n");
@@ -178,7 +183,9 @@ fn two_workers(levels: &[u8; 4096], masks: &[u16; 640]) {
 fn main() {
     let mut levels = [0u8; 4096];
     let mut masks = [0u16; 640];
-    text(b"1. A frame that meets the hypotheses\n64 blocks recorded, number ");
+    text(
+        b"1. A frame that meets the hypotheses\n64 blocks of 16x16 recorded, level values 32 28 24 20, sharpness 0: number ",
+    );
     number(witness::record_all(&mut levels, &mut masks) as usize);
     text(b"\n");
     say_edges(&masks);
@@ -187,7 +194,7 @@ fn main() {
     text(b"2. A frame that breaks the hypothesis that no call checks\n");
     unruly();
     text(
-        b"3. The first frame, with the row edges on the boundary filtered by both workers: the last call has these edges alone\n",
+        b"3. The first frame, its row edges on the boundary filtered by both workers: the last call has these edges alone\n",
     );
     two_workers(&levels, &masks);
 }
