@@ -28,10 +28,6 @@ chroma-units-le n = by-ss (λ ss. chromaUnits ss n ≤ n) (omega arith) (omega a
 pub chroma-unit-in : (u n ss : ℕ) → u < n → ss ≤ 1 → chromaUnit ss u < chromaUnits ss n
 chroma-unit-in u n ss h = by-ss (λ ss. chromaUnit ss u < chromaUnits ss n) (omega arith) (omega arith) ss
 
--- the units of a record are those of two halves
-pub chroma-units-in : (n ss : ℕ) → ss ≤ 1 → n ≤ 32 → chromaUnits ss n ≤ 2 * halfUnits ss
-chroma-units-in n = by-ss (λ ss. n ≤ 32 → chromaUnits ss n ≤ 2 * halfUnits ss) (λ h. omega arith) (λ h. omega arith)
-
 pub ss-hor-le : (layout : ℕ) → ssHor layout ≤ 1
 ss-hor-le layout = flag-le (eqb layout 444) 0 1 (omega arith) (omega arith)
 
