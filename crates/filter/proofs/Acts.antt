@@ -17,7 +17,8 @@ use Rattle.plane.proofs.Pieces.{idle}
 use Rattle.line.specs.Rule.{rule}
 use Rattle.line.specs.Width.{reads, writes}
 use Rattle.units.specs.Memory.{levelAt}
-use Rattle.walk.specs.Walk.{levelUsed, thresholds, lenOf, Units, setIn, visit, visitAt, walked}
+use Rattle.view.specs.Level.{levelUsed}
+use Rattle.walk.specs.Walk.{thresholds, lenOf, Units, setIn, visit, visitAt, walked}
 use Rattle.walk.specs.Walk as walk
 use Rattle.filter.specs.declared.Component.{Component}
 use Rattle.filter.specs.Filter.{Tables, kindOf, before, levelOf, planeOf, lineOf}

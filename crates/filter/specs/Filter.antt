@@ -23,7 +23,8 @@ use Rattle.units.specs.Memory.{levelAt}
 use Rattle.units.specs.Units.{chromaUnit}
 use Rattle.edges.specs.Edges.{Grid, passNo, side, edge}
 use Rattle.line.specs.Rule.{rule}
-use Rattle.walk.specs.Walk.{levelUsed, thresholds, lenOf}
+use Rattle.view.specs.Level.{levelUsed}
+use Rattle.walk.specs.Walk.{thresholds, lenOf}
 use Rattle.filter.specs.declared.Component.{Component}
 
 pub record Tables : Type 0 where

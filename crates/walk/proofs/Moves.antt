@@ -20,7 +20,8 @@ use Rattle.bits.proofs.Words.{word-some}
 use Rattle.bits.proofs.Walks.{visits-none, visits-set, visits-clear, visits-stop, walk-test, walk-on, walk-off, walk-next, word-set, word-clear}
 use Rattle.line.specs.Width.{Width, reads}
 use Rattle.piece.specs.Samples.{PieceUnder}
-use Rattle.walk.specs.Walk.{levelUsed, highest, lenOf, Units, setIn, lenAt, levelAt, indexAt, visit, visitAt, walked}
+use Rattle.view.specs.Level.{levelUsed}
+use Rattle.walk.specs.Walk.{highest, lenOf, Units, setIn, lenAt, levelAt, indexAt, visit, visitAt, walked}
 use Rattle.walk.specs.Ready.{Ready, Walkable, InRange}
 use Rattle.walk.proofs.Leaves.{width}
 use Rattle.walk.proofs.Ranges.{next-below}

@@ -1,5 +1,4 @@
 -- The walk over the mask bits of one line of units (01, "One line of samples").
---   levelUsed l before           the level at an edge: the unit's own byte l, or if it is 0 that of the unit before the edge
 --   thresholds depth e i lvl     what 7.14.6.2 and 7.14.6.3 compare with, from the limit table's e and i
 --   highest m₁ m₂ n              the highest class set at place n
 --   lumaLen c, chromaLen c       the width of a class
@@ -18,10 +17,8 @@ use Rattle.bits.specs.Bit.{hasBit}
 use Rattle.bits.specs.Walk.{visits}
 use Rattle.standard.specs.declared.Bounds.{Bounds}
 use Rattle.plane.specs.Line.{pieceAt}
+use Rattle.view.specs.Level.{levelUsed}
 use Rattle.line.specs.Rule.{rule}
-
-abbrev pub levelUsed : ℕ → ℕ → ℕ
-levelUsed l before = cond (eqb l 0) before l
 
 unfoldable pub thresholds : ℕ → List ℕ → List ℕ → ℕ → Bounds
 thresholds depth e i lvl =

@@ -3,29 +3,13 @@
 // back the levels' stride.
 ghost use mathlib.Core.Path.{_≡_};
 ghost use Prim.Native.Nat.{ℕ, _+_, _-_, _*_, _^_, _<_, _≤_};
-ghost use lib.ListN.{length, getD};
+ghost use lib.ListN.{length};
 ghost use Rattle.line.specs.Width.{Width, reads};
 ghost use Rattle.piece.specs.Samples.{PieceUnder};
-ghost use Rattle.walk.specs.Walk.{levelUsed, thresholds, highest, lenOf, units, visit, walked};
+ghost use Rattle.walk.specs.Walk.{thresholds, highest, lenOf, units, visit, walked};
 ghost use Rattle.walk.specs.Ready.{Walkable, InRange};
 ghost use Rattle.walk.specs.Promises.{Promises};
 use standard::Bounds;
-
-pub fn level_used(l: u8, before: u8) -> u8
-    ensures { λ r. ⌜ r ≡ levelUsed l before ⌝ }
-{
-    if l != 0 {
-        return l;
-    }
-    before
-}
-
-fn level_at(levels: &[u8], at: usize, back: usize) -> u8
-    requires { ⌜ (at < length (now levels)) × (back ≤ at) ⌝ }
-    ensures { λ r. ⌜ r ≡ levelUsed (getD (now (levels .entry)) at 0) (getD (now (levels .entry)) (at - back) 0) ⌝ }
-{
-    level_used(levels[at], levels[at - back])
-}
 
 // Of the bit xy at place n.
 fn class_of(m1: u32, m2: u32, xy: u32) -> u32
@@ -118,7 +102,16 @@ pub fn walk_8(
     while vm & !std::num::wrapping_sub_u32(xy, 1) != 0 {
         if vm & xy != 0 {
             let wd = width_of(uv, class_of(m1, m2, xy));
-            visit_8(dst, p, sa, st, wd, level_at(levels, lvl, back), e, i);
+            visit_8(
+                dst,
+                p,
+                sa,
+                st,
+                wd,
+                view::filter_level(levels, lvl, back),
+                e,
+                i,
+            );
         }
         xy <<= 1; // 0 after bit 31, and the walk stops
         p += 4 * sa;
@@ -173,7 +166,17 @@ pub fn walk_16(
     while vm & !std::num::wrapping_sub_u32(xy, 1) != 0 {
         if vm & xy != 0 {
             let wd = width_of(uv, class_of(m1, m2, xy));
-            visit_16(dst, p, sa, st, wd, level_at(levels, lvl, back), e, i, depth);
+            visit_16(
+                dst,
+                p,
+                sa,
+                st,
+                wd,
+                view::filter_level(levels, lvl, back),
+                e,
+                i,
+                depth,
+            );
         }
         xy <<= 1;
         p += 4 * sa;

@@ -41,8 +41,8 @@ class-of-requires c κs = search needs
 width-of-requires : tie.Need-width-of-requires Inv-loop μ-loop
 width-of-requires c κs = search needs
 
-level-at-requires : tie.Need-level-at-requires Inv-loop μ-loop
-level-at-requires c κs =
+filter-level-requires : tie.Need-filter-level-requires Inv-loop μ-loop
+filter-level-requires c κs =
     let b = c .before .before .before in
     let l = b .before .before .before in
     level-in (l .loop .inv) (in-turn (b .before)) (b .if2 .taken) (l .before .before .before .pre .2)
@@ -55,7 +55,7 @@ visit-16-requires c κs =
     let t = in-turn (b .before) in
     let p = l .before .before .before .pre in
     asked-16 v t (b .if2 .taken) _ _ (len-is v t _ _ (c .before .before .before .class-of .ensures) (c .before .before .width-of .ensures))
-    (level-is v t _ (c .level-at .ensures)) (p .0) (p .1) (p .2) (p .3)
+    (level-is v t _ (c .filter-level .ensures)) (p .0) (p .1) (p .2) (p .3)
 
 mul-p : tie.Need-mul-p Inv-loop μ-loop
 mul-p c = record { fits = sums-fit c .step }
@@ -99,7 +99,7 @@ walk-16-spec =
     wrapping-sub-u32-requires
     class-of-requires
     width-of-requires
-    level-at-requires
+    filter-level-requires
     visit-16-requires
     mul-p
     add-p

@@ -41,8 +41,8 @@ class-of-requires c κs = search needs
 width-of-requires : tie.Need-width-of-requires Inv-loop μ-loop
 width-of-requires c κs = search needs
 
-level-at-requires : tie.Need-level-at-requires Inv-loop μ-loop
-level-at-requires c κs =
+filter-level-requires : tie.Need-filter-level-requires Inv-loop μ-loop
+filter-level-requires c κs =
     let b = c .before .before .before in
     let l = b .before .before .before in
     level-in (l .loop .inv) (in-turn (b .before)) (b .if2 .taken) (l .before .before .before .pre)
@@ -54,7 +54,7 @@ visit-8-requires c κs =
     let v = l .loop .inv in
     let t = in-turn (b .before) in
     asked v t (b .if2 .taken) _ _ (len-is v t _ _ (c .before .before .before .class-of .ensures) (c .before .before .width-of .ensures))
-    (level-is v t _ (c .level-at .ensures)) (l .before .before .before .pre)
+    (level-is v t _ (c .filter-level .ensures)) (l .before .before .before .pre)
 
 mul-p : tie.Need-mul-p Inv-loop μ-loop
 mul-p c = record { fits = sums-fit c .step }
@@ -98,7 +98,7 @@ walk-8-spec =
     wrapping-sub-u32-requires
     class-of-requires
     width-of-requires
-    level-at-requires
+    filter-level-requires
     visit-8-requires
     mul-p
     add-p

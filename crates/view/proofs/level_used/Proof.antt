@@ -1,7 +1,7 @@
 -- The level at an edge, by the code's one test.
 use borrow.Author.Tests.{eq-eqb, ne-eqb}
-use Rattle.walk.proofs.level_used.Statement.{statement}
-use Rattle.walk.proofs.level_used.Tie as tie
+use Rattle.view.proofs.level_used.Statement.{statement}
+use Rattle.view.proofs.level_used.Tie as tie
 
 returns : tie.Need-returns
 returns c = simp (ne-eqb _ 0 (c .if1 .taken))
