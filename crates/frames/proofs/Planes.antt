@@ -5,7 +5,7 @@ use mathlib.Core.Bool.{Bool, true, false}
 use mathlib.Core.List.{List, [], _∷_}
 use mathlib.Core.Logic.{_≢_, ⊎-elim}
 use mathlib.Core.Option.{Option, some, none}
-use Prim.Native.Nat.{ℕ, _*_, _/_, _<_}
+use Prim.Native.Nat.{ℕ, suc, _*_, _/_, _<_}
 use native.Mathlib.Nat.{div-add-mod', mod-lt, div-lt-iff-lt-mul, mul-le-mul-right}
 use native.Mathlib.Omega.{arith}
 use lib.Dec.{eqb}
@@ -15,7 +15,7 @@ use Rattle.loops.proofs.Locals.{commute}
 use Rattle.plane.specs.Line.{Pass, columns, rows, Piece}
 use Rattle.plane.specs.Plane.{Plane, class, IsPiece, act, colsOf, rowsOf, rasterOf, down, Kept, InRow}
 use Rattle.plane.specs.Three.{Three}
-use Rattle.plane.proofs.Pieces.{Fair, inner-some, idle, local, apart, past}
+use Rattle.plane.proofs.Pieces.{Fair, inner-some, idle, local, apart, past, ahead}
 use Rattle.units.specs.Frame.{superblocks}
 use Rattle.order.specs.Demand3.{Demand3}
 use Rattle.order.proofs.Frames.{demand3}
@@ -38,6 +38,8 @@ pub record Sound (P : Plane) : Type 0 where
   pub same : (d : Pass) (j k : ℕ) → j ≢ k → (p q : Piece) → InRow P d j p → InRow P d k q → (s : List ℕ)
       → act P d p (act P d q s) ≡ act P d q (act P d p s)
   pub past : (j i : ℕ) → j < i → (p q : Piece) → InRow P columns i p → InRow P rows j q → (s : List ℕ)
+      → act P columns p (act P rows q s) ≡ act P rows q (act P columns p s)
+  pub ahead : (j i : ℕ) → suc i < j → (p q : Piece) → InRow P columns i p → InRow P rows j q → (s : List ℕ)
       → act P columns p (act P rows q s) ≡ act P rows q (act P columns p s)
 
 module _ (P : Plane) where
@@ -70,6 +72,7 @@ module _ (P : Plane) (k : Kept P) (f : Fair (P .widths)) where
         same = λ d i j n p q a b. commute (local P k f d p) (local P k f d q)
             (apart P k f d p q (λ e. n (one-row P d q i j (subst (InRow P d i) e a) b)));
         past = past P k f;
+        ahead = ahead P k f;
       }
 
 -- ---- a plane with no edges
@@ -114,13 +117,17 @@ module _ (P : Plane) (no-edge : (d : Pass) (p : Piece) → class P d p ≡ none)
         standard-any = λ d l _ s. raster-stays d s ∙ sym (run-stays d l s);
       }
 
+  idly : (p q : Piece) (s : List ℕ) → act P columns p (act P rows q s) ≡ act P rows q (act P columns p s)
+  idly p q s = stays columns p (act P rows q s) ∙ ap (act P rows q) (sym (stays columns p s))
+
   sound-none : Sound P
   sound-none =
       record {
         demand = demand-none;
         row = λ d p e. absurd (no-piece d p e);
         same = λ d _ _ _ p q _ _ s. stays d p (act P d q s) ∙ ap (act P d q) (sym (stays d p s));
-        past = λ _ _ _ p q _ _ s. stays columns p (act P rows q s) ∙ ap (act P rows q) (sym (stays columns p s));
+        past = λ _ _ _ p q _ _. idly p q;
+        ahead = λ _ _ _ p q _ _. idly p q;
       }
 
 -- ---- a filtered plane

@@ -149,6 +149,15 @@ module _ (f : Frame) (s : Three (List ℕ)) (a : Accepted f s) (b : BoundariesKe
         v = sweeps-commute (planes f .v) columns rows j k (W .past k j h) (s .v) q;
       }))
 
+  ahead : (k j : ℕ) → suc j < k → after f rows k (after f columns j s) ≡ after f columns j (after f rows k s)
+  ahead k j h =
+      sym (change-places f columns rows j k s
+      (λ q. record {
+        luma = sweeps-commute (planes f .luma) columns rows j k (Y .ahead k j h) (s .luma) q;
+        u = sweeps-commute (planes f .u) columns rows j k (U .ahead k j h) (s .u) q;
+        v = sweeps-commute (planes f .v) columns rows j k (W .ahead k j h) (s .v) q;
+      }))
+
   demand : Demand f s
   demand =
       record {
@@ -163,6 +172,7 @@ module _ (f : Frame) (s : Three (List ℕ)) (a : Accepted f s) (b : BoundariesKe
         columns-commute = same-commute columns;
         rows-commute = same-commute rows;
         past = λ k j h. past k j (omega arith);
+        ahead = λ k j h. ahead k j (omega arith);
       }
 
 pub promises : Promises

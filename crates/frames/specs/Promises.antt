@@ -5,7 +5,7 @@
 --   Promises     of all frames
 use mathlib.Core.List.{List}
 use mathlib.Core.Path.{_≡_}
-use Prim.Native.Nat.{ℕ, _<_}
+use Prim.Native.Nat.{ℕ, _+_, _<_}
 use lib.ListN.{getD}
 use Rattle.loops.specs.Run.{upTo}
 use Rattle.plane.specs.Line.{Pass, columns, rows, Piece}
@@ -43,6 +43,7 @@ pub record Demand (f : Frame) (s : Three (List ℕ)) : Type 0 where
   pub columns-commute : (j k : ℕ) → after f columns j (after f columns k s) ≡ after f columns k (after f columns j s)
   pub rows-commute : (j k : ℕ) → after f rows j (after f rows k s) ≡ after f rows k (after f rows j s)
   pub past : (k j : ℕ) → k < j → after f rows k (after f columns j s) ≡ after f columns j (after f rows k s)
+  pub ahead : (k j : ℕ) → j + 1 < k → after f rows k (after f columns j s) ≡ after f columns j (after f rows k s)
 
 -- `part` is the plane's list among the three. In it a call changes samples of its row's lines and, in rows, of at most w above, and sees those and at most r above
 pub record Reaches (f : Frame) (P : Plane) (part : Three (List ℕ) → List ℕ) (w r : ℕ) : Type 0 where
