@@ -2,7 +2,7 @@
 ghost use mathlib.Core.Path.{_≡_};
 ghost use Prim.Native.Nat.{_+_, _*_, _<_, _≤_, min, max};
 ghost use Rattle.standard.specs.Strength.{limit};
-ghost use Rattle.limits.specs.Limits.{sharpCap, limitsOf};
+ghost use Rattle.limits.specs.Limits.{sharpCap, limitsOf, lut, LimitsLent};
 ghost use Rattle.limits.specs.Promises.{Promises};
 
 pub struct Av1FilterLUT {
@@ -81,6 +81,44 @@ pub fn limits(sharpness: u32) -> LimitAnswer
         number: 0,
         table: Av1FilterLUT { e, i, sharp: words },
     }
+}
+
+fn filled(before: Av1FilterLUT, sharpness: u32) -> LimitAnswer
+    ensures { λ r. ⌜ LimitsLent sharpness (r .number) before (r .table) ⌝ }
+{
+    let a = limits(sharpness);
+    if a.number == 0 {
+        return a;
+    }
+    LimitAnswer {
+        number: a.number,
+        table: before,
+    }
+}
+
+pub fn calc_eih(lim_lut: &mut Av1FilterLUT, sharpness: u32) -> u32
+    ensures { λ r. ⌜ LimitsLent sharpness r (now («lim_lut» .entry)) (now («lim_lut» .exit)) ⌝ }
+{
+    let a = filled(*lim_lut, sharpness);
+    *lim_lut = a.table;
+    a.number
+}
+
+pub fn limits_into(e: &mut [u8; 64], i: &mut [u8; 64], sharp: &mut [u64; 2], sharpness: u32) -> u32
+    ensures { λ r. ⌜ LimitsLent sharpness r (lut (now (e .entry)) (now (i .entry)) (now (sharp .entry))) (lut (now (e .exit)) (now (i .exit)) (now (sharp .exit))) ⌝ }
+{
+    let a = limits(sharpness);
+    if a.number != 0 {
+        return a.number;
+    }
+    let table = a.table;
+    let blimit = table.e;
+    let limit = table.i;
+    let words = table.sharp;
+    *e = blimit;
+    *i = limit;
+    *sharp = words;
+    a.number
 }
 
 // The theorems of specs/Promises.antt are proved.
