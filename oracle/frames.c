@@ -1,30 +1,16 @@
 // Answers records of part `apply`, of any size, by the archive of crate `deblock`. It is compiled by the
 // kit's clang, which has no headers: what it takes from the C library is declared here.
+#include "deblock.h"
 
-typedef unsigned char u8;
-typedef unsigned short u16;
-typedef unsigned int u32;
-typedef unsigned long size_t;
+typedef uint8_t u8;
+typedef uint16_t u16;
+typedef uint32_t u32;
 
 long read(int, void *, size_t);
 long write(int, const void *, size_t);
 void *calloc(size_t, size_t);
 void free(void *);
 _Noreturn void exit(int);
-
-// A slice is a pointer and a length.
-#define BYTES const u8 *, size_t
-#define WORDS const u16 *, size_t
-#define FRAME u32 width, u32 height, u32 layout, u32 superblock
-#define PASS(T, ...)                                                                                  \
-    (T *, size_t, size_t, T *, size_t, T *, size_t, size_t, BYTES, size_t, WORDS, const u8 *,         \
-     const u8 *, __VA_ARGS__ FRAME, u32 level_u, u32 level_v, u32 row)
-u32 deblock_correct_column(u16 *, size_t, FRAME, u32 row, u32 start, BYTES, BYTES);
-u32 deblock_correct_row(u16 *, size_t, FRAME, u32 row, BYTES, BYTES);
-u32 deblock_columns_8 PASS(u8, );
-u32 deblock_rows_8 PASS(u8, );
-u32 deblock_columns_16 PASS(u16, u32 depth, );
-u32 deblock_rows_16 PASS(u16, u32 depth, );
 
 struct head {
     u32 length, is_wide, levels, masks, planes[3], steps;
