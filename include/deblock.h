@@ -85,7 +85,7 @@ uint32_t deblock_correct_row(uint16_t *masks, size_t masks_len, uint32_t width, 
                              const uint8_t *above_uv, size_t above_uv_len);
 
 // One pass of superblock row `row`, over luma and, unless the layout is 400 or both chroma base levels (level_u,
-// level_v) are 0, over U and V. rows of a superblock row come after columns of it and of all above; docs/PROOFS.md,
+// level_v) are 0, over U and V. rows of a superblock row come after columns of it and of the row above; docs/PROOFS.md,
 // "Two workers share a frame", says which calls may change places. depth is 8, 10 or 12. Answers 2, 3 (_16 alone),
 // 4, 7, 8, 9, 10, 11, 12, or 0: the planes are filtered.
 uint32_t deblock_columns_8(uint8_t *luma, size_t luma_len, size_t luma_stride, uint8_t *u, size_t u_len, uint8_t *v,
