@@ -11,6 +11,7 @@ const FRAME: Frame = Frame {
     layout: Layout::I420,
     superblock: 64,
 };
+const BASE: [u8; 4] = [32, 28, 24, 20];
 
 /// The transform of a block of 16x16: 4x4, 8x8 or 16x16; of its chroma 4x4 or 8x8.
 fn transform(bx: usize, by: usize, chroma: bool) -> usize {
@@ -54,22 +55,24 @@ fn planes<T>([luma, u, v]: &mut [Vec<T>; 3]) -> Planes<'_, T> {
 }
 
 struct Recorded {
+    base: [u8; 4],
     levels: [u8; 4096],
     masks: [u16; 640],
     limits: Limits,
 }
 
 impl Recorded {
-    fn new() -> Recorded {
+    fn new(base: [u8; 4]) -> Recorded {
         let mut table = Limits::default();
         limits(&mut table, 0).unwrap();
         let header = Header {
-            base: [32, 28, 24, 20],
+            base,
             ..Header::default()
         };
         let mut values = [0; 512];
         levels(&mut values, FRAME.layout, &header).unwrap();
         let mut recorded = Recorded {
+            base,
             levels: [0; 4096],
             masks: [0; 640],
             limits: table,
@@ -112,8 +115,8 @@ impl Recorded {
             stride: 32,
             masks: &self.masks,
             limits: &self.limits,
-            level_u: 24,
-            level_v: 20,
+            level_u: self.base[2].into(),
+            level_v: self.base[3].into(),
         }
     }
 
@@ -152,14 +155,14 @@ fn checksum(plane: &[u8]) -> u32 {
 
 #[test]
 fn eight_bits() {
-    let after = Recorded::new().filtered([0, 1, 2, 3]);
+    let after = Recorded::new(BASE).filtered([0, 1, 2, 3]);
     assert_eq!(differing(&after, &bytes(samples(1))), [10519, 2199, 2172]);
     assert_eq!(after.each_ref().map(|p| checksum(p)), [25559, 16786, 2322]);
 }
 
 #[test]
 fn sixteen_bits_at_depth_8_are_the_same() {
-    let recorded = Recorded::new();
+    let recorded = Recorded::new(BASE);
     let after = recorded.filtered_16(Depth::Eight, 1);
     assert_eq!(bytes(after), recorded.filtered([0, 1, 2, 3]));
 }
@@ -167,15 +170,24 @@ fn sixteen_bits_at_depth_8_are_the_same() {
 #[test]
 fn ten_and_twelve_bits() {
     for (depth, scale) in [(Depth::Ten, 4), (Depth::Twelve, 16)] {
-        let after = Recorded::new().filtered_16(depth, scale);
+        let after = Recorded::new(BASE).filtered_16(depth, scale);
         let changed = differing(&after, &samples(scale));
         assert!(changed.iter().all(|&n| n > 2000), "{changed:?}");
     }
 }
 
 #[test]
+fn a_plane_of_level_0_stays() {
+    for (base, stays) in [([32, 28, 0, 20], 1), ([32, 28, 24, 0], 2)] {
+        let after = Recorded::new(base).filtered([0, 1, 2, 3]);
+        let changed = differing(&after, &bytes(samples(1)));
+        assert_eq!(changed.map(|n| n == 0), [0, 1, 2].map(|p| p == stays));
+    }
+}
+
+#[test]
 fn allowed_orders_agree() {
-    let recorded = Recorded::new();
+    let recorded = Recorded::new(BASE);
     let first = recorded.filtered([0, 1, 2, 3]);
     for order in [[0, 2, 1, 3], [0, 1, 3, 2], [1, 0, 2, 3], [1, 0, 3, 2]] {
         assert_eq!(recorded.filtered(order), first);
@@ -192,7 +204,7 @@ fn allowed_orders_agree() {
 /// Each worker has a superblock row, and the planes are lent to one call at a time.
 #[test]
 fn two_workers_agree() {
-    let recorded = Recorded::new();
+    let recorded = Recorded::new(BASE);
     let first = recorded.filtered([0, 1, 2, 3]);
     for _ in 0..10 {
         let held = Mutex::new(bytes(samples(1)));

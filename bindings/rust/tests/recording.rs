@@ -26,9 +26,9 @@ fn fresh() -> Memory {
         levels: [0; 4 * STRIDE * 4],
         masks: [0; 640],
         above: [2; 8],
-        left: [2; 4],
+        left: [1; 4],
         above_uv: [1; 4],
-        left_uv: [1; 2],
+        left_uv: [0; 2],
     }
 }
 
@@ -181,7 +181,7 @@ fn a_skipped_block_has_its_own_edges_alone() {
     fill(&mut expected, [2, 4], [0, 2], [2, 3], 0);
     expected.masks[luma(0, 4, 0)] = 0b1111;
     expected.masks[luma(1, 0, 0)] = 0b11110000;
-    expected.masks[chroma(0, 2, 1)] = 0b11;
+    expected.masks[chroma(0, 2, 0)] = 0b11;
     expected.masks[chroma(1, 0, 1)] = 0b1100;
     let m = recorded(&block, Some(&skipped));
     assert_eq!((m.levels, m.masks), (expected.levels, expected.masks));

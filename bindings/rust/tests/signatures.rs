@@ -1,7 +1,7 @@
 //! Holds `src/ffi.rs` to the source of crate `deblock`: the calls, and each one's parameters, in order, by name and
 //! type, and its result.
 
-use std::collections::BTreeMap;
+use std::collections::{BTreeMap, BTreeSet};
 use std::fs;
 use std::path::PathBuf;
 
@@ -65,21 +65,18 @@ fn declarations() -> String {
     fs::read_to_string(repository().join("bindings/rust/src/ffi.rs")).unwrap()
 }
 
-/// Where two sets of calls part, a line each.
-fn differences(one: &Calls, other: &Calls) -> Vec<String> {
-    let mut found = vec![];
-    for name in one.keys().chain(other.keys()) {
-        match (one.get(name), other.get(name)) {
-            (Some(a), Some(b)) if a != b => {
-                let n = a.iter().zip(b).take_while(|(a, b)| a == b).count();
-                found.push(format!("{name}, {n}: {:?}, {:?}", a.get(n), b.get(n)));
-            }
-            (Some(_), Some(_)) => {}
-            _ => found.push(format!("{name} is missing")),
+/// Where the declarations part from the crate, a line for each call.
+fn differences(exported: &Calls, declared: &Calls) -> Vec<String> {
+    let names: BTreeSet<&String> = exported.keys().chain(declared.keys()).collect();
+    let difference = |name| match (exported.get(name), declared.get(name)) {
+        (Some(ours), Some(theirs)) => {
+            let (ours, theirs) = ours.iter().zip(theirs).find(|(a, b)| a != b)?;
+            Some(format!("{name}: {ours} exported, {theirs} declared"))
         }
-    }
-    found.dedup();
-    found
+        (None, _) => Some(format!("{name}: not exported")),
+        (_, None) => Some(format!("{name}: not declared")),
+    };
+    names.into_iter().filter_map(difference).collect()
 }
 
 #[test]
