@@ -19,6 +19,7 @@ mod tally;
 
 use compare::BATCH;
 use part::{Count, Part};
+use parts::speed::Counted;
 #[allow(unused_imports)]
 use rav1d::{crates::*, include, src};
 use std::io::{self, BufReader, BufWriter, Read, Write};
@@ -28,7 +29,9 @@ const USAGE: &str = "usage: oracle cases PART COUNT SEED            cases to sta
        oracle fixed PART                       the cases that the gate replays
        oracle answers PART                     cases from standard input, answers to standard output
        oracle compare PART COUNT SEED PROGRAM..  a program's answers against rav1d's
-COUNT is a number, or `all` for a part that has so few cases (limits)";
+       oracle speed make FRAME                 a frame with its blocks to standard output
+       oracle speed filter|record FRAME 1|2    rav1d's work on a frame, once or twice
+FRAME is WIDTH HEIGHT DEPTH key|inter SEED; COUNT is a number, or `all` for a part that has so few cases (limits)";
 
 fn main() -> ExitCode {
     src::tables::check();
@@ -52,6 +55,9 @@ fn run(words: &[String]) -> Option<Result<(), String>> {
     let [verb, name, rest @ ..] = words else {
         return None;
     };
+    if verb == "speed" {
+        return speed(name, rest);
+    }
     let part = parts::PARTS.into_iter().find(|part| part.name() == name)?;
     let result = match (verb.as_str(), rest) {
         ("fixed", []) => write(part.fixed()),
@@ -64,6 +70,29 @@ fn run(words: &[String]) -> Option<Result<(), String>> {
         _ => return None,
     };
     Some(result.map_err(|error| error.to_string()))
+}
+
+/// Makes a frame for counting, or has rav1d work on it.
+fn speed(verb: &str, words: &[String]) -> Option<Result<(), String>> {
+    let [width, height, depth, kind, seed, times @ ..] = words else {
+        return None;
+    };
+    let frame = [width.parse().ok()?, height.parse().ok()?];
+    let is_key = ["inter", "key"].iter().position(|word| word == kind)? == 1;
+    let frame = Counted::new(frame, depth.parse().ok()?, is_key, seed.parse().ok()?);
+    match (verb, times) {
+        ("make", []) => {
+            eprint!("{}", frame.tally());
+            return Some(write([frame.write()]).map_err(|error| error.to_string()));
+        }
+        ("filter", [times]) => println!("{:016x}", frame.filter(times.parse().ok()?)),
+        ("record", [times]) if !frame.record(times.parse().ok()?) => {
+            return Some(Err("the masks or levels differ".into()));
+        }
+        ("record", [_]) => {}
+        _ => return None,
+    }
+    Some(Ok(()))
 }
 
 fn number(part: &dyn Part, count: &str) -> Option<Count> {

@@ -3,6 +3,7 @@ mod levels;
 mod limits;
 mod line;
 mod record;
+pub mod speed;
 
 use crate::part::Part;
 

@@ -55,7 +55,81 @@ fn row_of<'a>(
     })
 }
 
-/// One pass on what the call lends; before columns, corrections by rav1d's own hand.
+/// What a call lends, as rav1d holds it.
+pub struct Stage {
+    f: Rav1dFrameData,
+    planes: [Rav1dPictureDataComponent; 3],
+    strides: [usize; 3],
+    /// Whether a row of tiles starts at the call's row.
+    starts: i32,
+}
+
+impl Stage {
+    /// Corrections are made by rav1d's own hand before columns.
+    pub fn new<BD: BitDepth>(
+        case: &Case,
+        call: &Call,
+        corrections: &[Call],
+        memory: &Memory,
+    ) -> Self {
+        let mut header = Rav1dFrameHeader::default();
+        [header.loopfilter.level_u, header.loopfilter.level_v] = call.chroma.map(|n| n as u8);
+        let starts = correct(call, corrections, &mut header);
+        let depth = if case.is_wide { call.depth } else { 8 };
+        let mut f = frame::<BD>(call, depth as u8, header);
+        f.b4_stride = call.stride as isize;
+        lend_contexts(&mut f, call, corrections);
+        f.lf.mask = recorder::records(&memory.masks[..call.lent.masks as usize]);
+        let levels = &memory.levels[..call.lent.levels as usize];
+        f.lf.level.get_mut().extend_from_slice(levels);
+        (f.lf.lim_lut.0.e, f.lf.lim_lut.0.i) = (case.e, case.i);
+        // Of planes that are not filtered nothing is looked at.
+        let (lent, strides): ([_; 3], _) = match call.filters_chroma() {
+            true => (
+                call.lent.planes,
+                [0, 1, 1].map(|n| call.strides[n] as usize),
+            ),
+            false => (
+                [call.lent.planes[0], 0, 0],
+                [call.strides[0] as usize, 0, 0],
+            ),
+        };
+        let planes = from_fn(|n| {
+            let lent = memory.planes[n][..lent[n] as usize].iter();
+            let lent: Vec<BD::Pixel> = lent.map(|s| (*s).as_()).collect();
+            Rav1dPictureDataComponent::new::<BD>(&lent, strides[n])
+        });
+        Self {
+            f,
+            planes,
+            strides,
+            starts,
+        }
+    }
+
+    /// One pass of the call's row.
+    pub fn pass<BD: BitDepth>(&self, call: &Call, pass: Pass) {
+        let row = row_of(&self.planes, call, self.strides);
+        let (first, sby) = (record_row(call), call.row as i32);
+        match pass {
+            Pass::Columns => {
+                rav1d_loopfilter_sbrow_cols::<BD>(&self.f, row, first, sby, self.starts)
+            }
+            Pass::Rows => rav1d_loopfilter_sbrow_rows::<BD>(&self.f, row, first, sby),
+        }
+    }
+
+    pub fn store<BD: BitDepth>(&self, memory: &mut Memory) {
+        recorder::store(&self.f.lf.mask, &mut memory.masks);
+        for (to, plane) in memory.planes.iter_mut().zip(&self.planes) {
+            for (to, from) in to.iter_mut().zip(plane.samples::<BD>()) {
+                *to = from.into();
+            }
+        }
+    }
+}
+
+/// One pass on what the call lends.
 fn filter<BD: BitDepth>(
     case: &Case,
     call: &Call,
@@ -63,46 +137,9 @@ fn filter<BD: BitDepth>(
     corrections: &[Call],
     memory: &mut Memory,
 ) {
-    let mut header = Rav1dFrameHeader::default();
-    [header.loopfilter.level_u, header.loopfilter.level_v] = call.chroma.map(|n| n as u8);
-    let starts = correct(call, corrections, &mut header);
-    let depth = if case.is_wide { call.depth } else { 8 };
-    let mut f = frame::<BD>(call, depth as u8, header);
-    f.b4_stride = call.stride as isize;
-    lend_contexts(&mut f, call, corrections);
-    f.lf.mask = recorder::records(&memory.masks[..call.lent.masks as usize]);
-    let levels = &memory.levels[..call.lent.levels as usize];
-    f.lf.level.get_mut().extend_from_slice(levels);
-    (f.lf.lim_lut.0.e, f.lf.lim_lut.0.i) = (case.e, case.i);
-    // Of planes that are not filtered nothing is looked at.
-    let (lent, strides): ([_; 3], _) = match call.filters_chroma() {
-        true => (
-            call.lent.planes,
-            [0, 1, 1].map(|n| call.strides[n] as usize),
-        ),
-        false => (
-            [call.lent.planes[0], 0, 0],
-            [call.strides[0] as usize, 0, 0],
-        ),
-    };
-    let planes = from_fn(|n| {
-        let lent = memory.planes[n][..lent[n] as usize].iter();
-        let lent: Vec<BD::Pixel> = lent.map(|s| (*s).as_()).collect();
-        Rav1dPictureDataComponent::new::<BD>(&lent, strides[n])
-    });
-    let row = row_of(&planes, call, strides);
-    match pass {
-        Pass::Columns => {
-            rav1d_loopfilter_sbrow_cols::<BD>(&f, row, record_row(call), call.row as i32, starts)
-        }
-        Pass::Rows => rav1d_loopfilter_sbrow_rows::<BD>(&f, row, record_row(call), call.row as i32),
-    }
-    recorder::store(&f.lf.mask, &mut memory.masks);
-    for (to, plane) in memory.planes.iter_mut().zip(&planes) {
-        for (to, from) in to.iter_mut().zip(plane.samples::<BD>()) {
-            *to = from.into();
-        }
-    }
+    let stage = Stage::new::<BD>(case, call, corrections, memory);
+    stage.pass::<BD>(call, pass);
+    stage.store::<BD>(memory);
 }
 
 /// Tells the header of tile starts in a row; the answer is whether a row of tiles starts there.

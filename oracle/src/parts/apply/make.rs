@@ -2,7 +2,8 @@
 
 use super::case::{Call, Grid, Kind, Lent, Memory, Pass, LAYOUTS, LUMA, PASSES, RECORD};
 use crate::include::dav1d::headers::Rav1dFrameHeader;
-use crate::parts::record::{case::Block, tiling};
+use crate::parts::record::case::Block;
+use crate::parts::record::tiling::{self, Kinds};
 use crate::rng::Rng;
 use crate::src::align::Align16;
 use crate::src::lf_mask::{rav1d_calc_eih, rav1d_calc_lf_values, Av1FilterLUT};
@@ -356,7 +357,7 @@ fn buffers(call: &Call, rng: &mut Rng) -> Memory {
     memory
 }
 
-fn whole(call: Call, is_wide: bool, rng: &mut Rng) -> Frame {
+pub fn whole(call: Call, is_wide: bool, rng: &mut Rng) -> Frame {
     let (e, i) = limits(rng);
     Frame {
         is_wide,
@@ -401,7 +402,7 @@ pub fn made_up(call: Call, is_wide: bool, rng: &mut Rng) -> Frame {
 }
 
 /// The level values of some segments, as rav1d has them for base levels and deltas.
-fn segments(chroma: [u32; 2], rng: &mut Rng) -> Vec<[u8; 64]> {
+pub fn segments(chroma: [u32; 2], rng: &mut Rng) -> Vec<[u8; 64]> {
     let mut header = Rav1dFrameHeader::default();
     let filter = &mut header.loopfilter;
     filter.level_y = from_fn(|_| up_to(62, rng) as u8 + 1);
@@ -430,8 +431,20 @@ fn segments(chroma: [u32; 2], rng: &mut Rng) -> Vec<[u8; 64]> {
 /// Masks, levels and contexts that rav1d records of a legal tiling.
 pub fn recorded(call: Call, is_wide: bool, rng: &mut Rng) -> Frame {
     let mut frame = whole(call, is_wide, rng);
+    let segments = segments(frame.call.chroma, rng);
+    let split = tiling::any_split(rng);
+    record(&mut frame, &segments, (split, Kinds::Both), rng);
+    frame
+}
+
+/// Records a tiling, and gives its blocks.
+pub fn record(
+    frame: &mut Frame,
+    segments: &[[u8; 64]],
+    style: (i32, Kinds),
+    rng: &mut Rng,
+) -> Vec<Block> {
     let call = &frame.call;
-    let segments = segments(call.chroma, rng);
     let block = Block {
         is_inter: false,
         chroma: 0,
@@ -450,17 +463,18 @@ pub fn recorded(call: Call, is_wide: bool, rng: &mut Rng) -> Frame {
     };
     let [across, down] = frame.starts.each_ref().map(Vec::as_slice);
     let records = RECORD * (call.records()[0] * call.records()[1]) as usize;
-    let ends = tiling::whole(
+    let (ends, blocks) = tiling::whole(
         rng,
         block,
         call.superblock / 4,
         [across, down],
-        &segments,
+        segments,
+        style,
         &mut frame.memory.masks[..records],
         &mut frame.memory.levels,
     );
     (frame.left, frame.above) = (ends.right, ends.lower);
-    frame
+    blocks
 }
 
 /// A frame for a program of this room: made up, or one in three recorded.

@@ -1,13 +1,13 @@
 //! Corrections and both passes on a frame's masks and planes, superblock row after superblock row.
 
-mod case;
+pub mod case;
 mod describe;
-mod filter;
+pub mod filter;
 mod fixed;
-mod make;
+pub mod make;
 mod refusal;
 mod script;
-mod tally;
+pub mod tally;
 
 use crate::part::{Group, Part, Record};
 use crate::rng::Rng;
@@ -37,7 +37,7 @@ const ROOM: Room = Room {
 impl Case {
     /// Numbers and memory after all steps. Each call is told with its first fault, and memory before and
     /// after it.
-    fn run(
+    pub fn run(
         &self,
         mut tell: impl FnMut(&Call, Option<usize>, &Memory, &Memory),
     ) -> (Vec<u8>, Memory) {

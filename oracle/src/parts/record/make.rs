@@ -57,9 +57,8 @@ pub fn frame(rng: &mut Rng) -> Block {
     }
 }
 
-/// What is neither place nor transform. Intra blocks have no use for some of it.
+/// What is neither place, kind nor transform. Intra blocks have no use for some of it.
 pub fn code(block: &mut Block, has_pair: bool, rng: &mut Rng) {
-    block.is_inter = rng.once_in(2);
     block.chroma = flag(has_pair, rng);
     if !has_pair {
         block.uvtx = rng.pick(&[0, 18, 19, u32::MAX]);
@@ -127,6 +126,7 @@ fn contexts(block: &Block, to: &mut [[u8; CONTEXT]; 4], rng: &mut Rng) {
 /// Any transforms and the rest for a block that has its size and place.
 fn dress(block: &mut Block, rng: &mut Rng) {
     let has_pair = block.layout != 400 && !rng.once_in(4);
+    block.is_inter = rng.once_in(2);
     code(block, has_pair, rng);
     block.tx = match block.is_inter {
         true => rng.pick(&[0, block.largest_tx(), block.largest_tx()]),

@@ -72,55 +72,93 @@ impl Recorder {
         }
     }
 
-    fn record_in(
-        &self,
-        record: &Av1Filter,
-        b: &Block,
-        [above, left, above_uv, left_uv]: [&mut [u8]; 4],
-    ) {
-        let [x, y] = b.place.map(|n| n as i32);
-        let place = Bxy { x, y };
-        let stride = b.stride as isize;
-        let value = |kind, reference, mode| b.values[(kind * 8 + reference) * 2 + mode];
-        let values = Align16(from_fn(|k| from_fn(|r| from_fn(|m| value(k, r, m)))));
-        let [w4, h4] = b.frame_units().map(|n| n as i32);
-        let size = BlockSize::from_standard(b.size as u8).unwrap();
-        let tx = TxfmSize::from_repr(b.tx as usize).unwrap();
-        let layout = LAYOUTS.iter().position(|layout| *layout == b.layout);
-        let layout = Rav1dPixelLayout::from_repr(layout.unwrap()).unwrap();
-        let pair = (b.chroma != 0).then_some((above_uv, left_uv));
-        let uvtx = match pair {
-            Some(_) => TxfmSize::from_repr(b.uvtx as usize).unwrap(),
-            None => TxfmSize::default(),
-        };
+    fn record_in(&self, record: &Av1Filter, b: &Block, contexts: [&mut [u8]; 4]) {
+        self.call(record, &Call::new(b), contexts);
+    }
+
+    /// rav1d's call, on one record.
+    fn call(&self, record: &Av1Filter, c: &Call, contexts: [&mut [u8]; 4]) {
+        let [above, left, above_uv, left_uv] = contexts;
+        let pair = c.has_pair.then_some((above_uv, left_uv));
         let levels = &self.levels;
-        if b.is_inter {
-            let (reference, mode, skip) = (b.reference as usize, b.mode != 0, b.skip != 0);
+        let [w4, h4] = c.frame;
+        if c.is_inter {
             rav1d_create_lf_mask_inter(
                 record,
                 levels,
-                stride,
-                &values,
-                reference,
-                mode,
-                place,
+                c.stride,
+                &c.values,
+                c.reference,
+                c.mode,
+                c.place,
                 w4,
                 h4,
-                skip,
-                size,
-                tx,
-                &b.tx_masks,
-                uvtx,
-                layout,
+                c.skip,
+                c.size,
+                c.tx,
+                &c.tx_masks,
+                c.uvtx,
+                c.layout,
                 above,
                 left,
                 pair,
             );
         } else {
             rav1d_create_lf_mask_intra(
-                record, levels, stride, &values, place, w4, h4, size, tx, uvtx, layout, above,
-                left, pair,
+                record, levels, c.stride, &c.values, c.place, w4, h4, c.size, c.tx, c.uvtx,
+                c.layout, above, left, pair,
             );
+        }
+    }
+
+    /// One call whose record is told.
+    pub fn call_at(&self, record: usize, call: &Call, contexts: [&mut [u8]; 4]) {
+        self.call(&self.records[record], call, contexts);
+    }
+}
+
+/// A block as rav1d's calls take it.
+pub struct Call {
+    is_inter: bool,
+    has_pair: bool,
+    skip: bool,
+    mode: bool,
+    stride: isize,
+    values: Align16<[[[u8; 2]; 8]; 4]>,
+    reference: usize,
+    place: Bxy,
+    frame: [i32; 2],
+    size: BlockSize,
+    tx: TxfmSize,
+    uvtx: TxfmSize,
+    tx_masks: [u16; 2],
+    layout: Rav1dPixelLayout,
+}
+
+impl Call {
+    pub fn new(b: &Block) -> Self {
+        let [x, y] = b.place.map(|n| n as i32);
+        let value = |kind, reference, mode| b.values[(kind * 8 + reference) * 2 + mode];
+        let layout = LAYOUTS.iter().position(|layout| *layout == b.layout);
+        let has_pair = b.chroma != 0;
+        Self {
+            is_inter: b.is_inter,
+            has_pair,
+            skip: b.skip != 0,
+            mode: b.mode != 0,
+            stride: b.stride as isize,
+            values: Align16(from_fn(|k| from_fn(|r| from_fn(|m| value(k, r, m))))),
+            reference: b.reference as usize,
+            place: Bxy { x, y },
+            frame: b.frame_units().map(|n| n as i32),
+            size: BlockSize::from_standard(b.size as u8).unwrap(),
+            tx: TxfmSize::from_repr(b.tx as usize).unwrap(),
+            uvtx: match has_pair {
+                true => TxfmSize::from_repr(b.uvtx as usize).unwrap(),
+                false => TxfmSize::default(),
+            },
+            tx_masks: b.tx_masks,
+            layout: Rav1dPixelLayout::from_repr(layout.unwrap()).unwrap(),
         }
     }
 }

@@ -23,6 +23,17 @@ struct Tiling<'a> {
     contexts: [Vec<u8>; 4],
     /// The level values of segments, of which blocks have one; else each block has any.
     segments: &'a [[u8; 64]],
+    kinds: Kinds,
+    /// All blocks so far, in order.
+    blocks: Vec<Block>,
+}
+
+/// Which blocks a tiling has.
+#[derive(Clone, Copy, PartialEq)]
+pub enum Kinds {
+    Both,
+    Intra,
+    Inter,
 }
 
 /// A block at any unit, so large ones more often than small ones, and more at an odd frame's end.
@@ -45,10 +56,12 @@ pub fn tiled(rng: &mut Rng) -> Case {
         frame,
         covered,
         target: Some(target),
-        split: rng.pick(&[1, 2, 2, 4]),
+        split: any_split(rng),
         recorder,
         contexts: contexts(&frame),
         segments: &[],
+        kinds: Kinds::Both,
+        blocks: vec![],
         rng,
     };
     let block = tiling.superblocks(superblock);
@@ -65,7 +78,7 @@ pub fn tiled(rng: &mut Rng) -> Case {
 }
 
 /// Contexts as they start, with room for a block past the frame.
-fn contexts(frame: &Block) -> [Vec<u8>; 4] {
+pub fn contexts(frame: &Block) -> [Vec<u8>; 4] {
     let across = frame.frame_units()[0] as usize + 32;
     [(2, across), (2, 64), (1, across), (1, 64)].map(|(start, n)| vec![start; n])
 }
@@ -80,24 +93,34 @@ pub struct Ends {
     pub lower: HashMap<u32, [Vec<u8>; 2]>,
 }
 
-/// Records all blocks of a frame. Tile starts are in superblocks, 0 among them; `superblock` is in units.
+/// How often a node is split, for `whole`.
+pub fn any_split(rng: &mut Rng) -> i32 {
+    rng.pick(&[1, 2, 2, 4])
+}
+
+/// Records all blocks of a frame, and gives them in order. Tile starts are in superblocks, 0 among them;
+/// `superblock` is in units.
+#[allow(clippy::too_many_arguments)]
 pub fn whole(
     rng: &mut Rng,
     frame: Block,
     superblock: u32,
     starts: [&[u32]; 2],
     segments: &[[u8; 64]],
+    (split, kinds): (i32, Kinds),
     masks: &mut [u16],
     levels: &mut [u8],
-) -> Ends {
+) -> (Ends, Vec<Block>) {
     let mut tiling = Tiling {
         frame,
         covered: frame.frame_units().map(|n| n.next_multiple_of(2)),
         target: None,
-        split: rng.pick(&[1, 2, 2, 4]),
+        split,
         recorder: Recorder::new(masks, levels),
         contexts: contexts(&frame),
         segments,
+        kinds,
+        blocks: vec![],
         rng,
     };
     let mut ends = Ends::default();
@@ -126,12 +149,13 @@ pub fn whole(
         let above = [0, 2].map(|n| tiling.contexts[n].clone());
         ends.lower.insert(bottom, above);
     }
+    let blocks = tiling.blocks;
     tiling.recorder.store(masks, levels);
-    ends
+    (ends, blocks)
 }
 
 /// A block's places in the contexts.
-fn places(block: &Block) -> [usize; 4] {
+pub fn places(block: &Block) -> [usize; 4] {
     let ([x, y], ss) = (block.place, block.ss());
     [x, y % 32, x >> ss[0], (y % 32) >> ss[1]].map(|n| n as usize)
 }
@@ -226,6 +250,7 @@ impl Tiling<'_> {
         let contexts = self.contexts.each_mut();
         let contexts = contexts.map(|context| &mut context[at.next().unwrap()..]);
         self.recorder.record(&block, contexts);
+        self.blocks.push(block);
         None
     }
 
@@ -242,6 +267,10 @@ impl Tiling<'_> {
         let shares =
             |axis: usize| units[axis] == 1 && ss[axis] == 1 && place[axis].is_multiple_of(2);
         let has_pair = block.layout != 400 && !shares(0) && !shares(1);
+        block.is_inter = match self.kinds {
+            Kinds::Both => rng.once_in(2),
+            kinds => kinds == Kinds::Inter,
+        };
         make::code(&mut block, has_pair, rng);
         if !self.segments.is_empty() {
             block.values = rng.pick(self.segments);
