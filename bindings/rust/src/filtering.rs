@@ -120,6 +120,7 @@ mod tests {
         let mut luma = before.clone();
         let mut masks = [0; 640];
         masks[12] = 1;
+        // SAFETY: each pointer stands with the length of its array, and the archive checks the rest.
         let number = unsafe {
             ffi::deblock_columns_16(
                 luma.as_mut_ptr(),
