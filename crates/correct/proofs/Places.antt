@@ -14,8 +14,9 @@ use Rattle.units.proofs.Places.{ss-hor-le, ss-ver-le, chroma-unit-in, superbloc
 use Rattle.units.proofs.Tests.{reflects-frame, reflects-superblock}
 use Rattle.block.proofs.Passed.{or-off}
 use Rattle.edges.specs.Edges.{Proper, ssOf}
+use Rattle.edge_at.specs.Bit.{passOf}
 use Rattle.correct.specs.declared.Start.{Start}
-use Rattle.correct.specs.Start.{w4, h4, sb4, passOf, gridAt, begin, across, first, end, inside, corrects, Shaped, Inside}
+use Rattle.correct.specs.Start.{w4, h4, sb4, gridAt, begin, across, first, end, inside, corrects, Shaped, Inside}
 use Rattle.correct.specs.Tests.{shapeBad}
 
 -- ---- the plane

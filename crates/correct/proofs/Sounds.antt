@@ -18,9 +18,10 @@ use Rattle.units.proofs.Tests.{reflects-masks}
 use Rattle.block.specs.Tests.{contextBad}
 use Rattle.block.proofs.Passed.{or-off}
 use Rattle.edges.specs.Edges.{ssOf, other, unitsOf}
+use Rattle.edge_at.specs.Bit.{passOf}
 use Rattle.correct.specs.declared.Start.{Start}
 use Rattle.correct.specs.declared.Line.{Line}
-use Rattle.correct.specs.Start.{w4, h4, sb4, passOf, gridAt, across, end, lineOf, inside, corrects, Inside}
+use Rattle.correct.specs.Start.{w4, h4, sb4, gridAt, across, end, lineOf, inside, corrects, Inside}
 use Rattle.correct.specs.Correct.{lineDone, planeDone, Fits}
 use Rattle.correct.specs.Tests.{shapeBad, unitsAlong, most, contextRefused, lengthBad, number}
 use Rattle.correct.specs.Answer.{Ready}

@@ -23,8 +23,9 @@ use Rattle.block.specs.Tests.{contextBad}
 use Rattle.block.proofs.Passed.{or-off}
 use Rattle.edges.specs.Edges.{classes, other, unitsOf, highest, edge}
 use Rattle.edges.proofs.Bits.{edge-bit-in, edge-bit-inj, kinds-apart, highest-one}
+use Rattle.edge_at.specs.Bit.{passOf}
 use Rattle.correct.specs.declared.Start.{Start}
-use Rattle.correct.specs.Start.{w4, h4, passOf, gridAt, begin, across, first, lineOf, inside, corrects, Inside}
+use Rattle.correct.specs.Start.{w4, h4, gridAt, begin, across, first, lineOf, inside, corrects, Inside}
 use Rattle.correct.specs.Correct.{oldClass, correctLine, lineDone, planeDone, done}
 use Rattle.correct.specs.Tests.{unitsAlong, most, contextRefused, number}
 use Rattle.correct.specs.Answer.{CorrectAnswer}

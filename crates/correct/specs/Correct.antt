@@ -8,8 +8,7 @@
 --   done              of all planes
 -- and what the code asks
 --   Room              of an edge's first bit: up to the highest old class its bits lie in the masks
---   Within            of a unit of a line: it lies in the frame
---   Fits              of a line: all its units do, and masks and context are long enough
+--   Fits              of a line: its units lie in the frame, and masks and context are long enough
 use mathlib.Core.Bool.{Bool, true, false, cond}
 use mathlib.Core.List.{List}
 use mathlib.Core.Path.{_≡_}
@@ -21,9 +20,10 @@ use Rattle.bits.specs.Mark.{isSet, mark, unmark}
 use Rattle.plane.specs.Line.{Pass}
 use Rattle.edges.specs.Edges.{Grid, Proper, gridOf, other, unitsOf, edgeBit}
 use Rattle.units.specs.Frame.{frameRecords}
+use Rattle.edge_at.specs.Bit.{passOf}
 use Rattle.correct.specs.declared.Start.{Start}
 use Rattle.correct.specs.declared.Line.{Line}
-use Rattle.correct.specs.Start.{passOf, lineOf, corrects}
+use Rattle.correct.specs.Start.{lineOf, corrects}
 
 abbrev pub oldClass : Bool → (ℕ → Bool) → ℕ
 oldClass true set = 2 * boolByte (set 2) + boolByte (set 1)
@@ -54,13 +54,6 @@ pub record Room (luma : Bool) (e len : ℕ) : Type 0 where
   pub two : (e + 32) / 16 < len
   pub four : luma ≡ true → (e + 96) / 16 < len
   pub in-usize : e + 96 < 2 ^ 64
-
-pub record Within (l : Line) (along : ℕ) : Type 0 where
-  pub proper : Proper (gridIn l)
-  pub wide : l .w4 .0 ≤ 4096
-  pub high : l .h4 .0 ≤ 4096
-  pub across-in : l .across < unitsOf (gridIn l) (passOf (l .rows))
-  pub along-in : along < unitsOf (gridIn l) (other (passOf (l .rows)))
 
 pub record Fits (l : Line) (masks context : ℕ) : Type 0 where
   pub proper : Proper (gridIn l)

@@ -18,7 +18,8 @@ use Rattle.bits.specs.Mark.{isSet}
 use Rattle.plane.specs.Line.{Piece}
 use Rattle.edges.specs.Edges.{classes, edgeBit, edge}
 use Rattle.correct.specs.declared.Start.{Start}
-use Rattle.correct.specs.Start.{passOf, gridAt, begin, across, first, end}
+use Rattle.edge_at.specs.Bit.{passOf}
+use Rattle.correct.specs.Start.{gridAt, begin, across, first, end}
 use Rattle.correct.specs.Correct.{oldClass}
 use Rattle.correct.specs.Faults.{ShapeFault, ContextsFault, LengthFault, OutsideFault}
 use Rattle.correct.specs.Answer.{CorrectAnswer}

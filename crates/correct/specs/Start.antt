@@ -1,7 +1,6 @@
 -- The start of a tile in a frame, document 01, "Tile correction". The code's `Start` holds the frame, the pass (rows or not), the
 -- superblock row, and the superblock at which the tile's first column lies, 0 in the row pass.
 --   w4, h4, sb4               the frame and a superblock's side, in luma units
---   passOf                    the pass whose edges are corrected
 --   gridAt                    the luma or the chroma plane's units
 --   begin                     the superblock whose first line of units across the pass is the tile's first
 --   across                    that line, in units of a plane
@@ -17,11 +16,11 @@ use mathlib.Core.Logic.{_⊎_}
 use mathlib.Core.Path.{_≡_}
 use Prim.Native.Nat.{ℕ, _+_, _-_, _*_, _≤_, _<_, min}
 use lib.Dec.{ltb}
-use Rattle.plane.specs.Line.{Pass, columns, rows}
 use Rattle.units.specs.Units.{unitsOf, chromaUnit, chromaUnits}
 use Rattle.units.specs.Layout.{hasChroma, ssHor, ssVer}
 use Rattle.units.specs.Frame.{superblockUnits, superblocks}
 use Rattle.edges.specs.Edges.{Grid, gridOf, ssOf}
+use Rattle.edge_at.specs.Bit.{passOf}
 use Rattle.correct.specs.declared.Start.{Start}
 use Rattle.correct.specs.declared.Line.{Line}
 
@@ -33,9 +32,6 @@ h4 t = unitsOf (t .height .0)
 
 abbrev pub sb4 : Start → ℕ
 sb4 t = superblockUnits (t .superblock)
-
-abbrev pub passOf : Bool → Pass
-passOf b = cond b rows columns
 
 abbrev pub gridAt : Start → Bool → Grid
 gridAt t luma = gridOf luma (cond luma 0 (ssHor (t .layout))) (cond luma 0 (ssVer (t .layout))) (w4 t) (h4 t)

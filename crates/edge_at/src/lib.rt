@@ -1,4 +1,6 @@
 // The class of the edge at a unit, from the masks.
+pub mod bit;
+
 use bits::test_bit;
 ghost use mathlib.Core.Path.{_≡_};
 ghost use Prim.Native.Nat.{_+_, _/_, _<_};

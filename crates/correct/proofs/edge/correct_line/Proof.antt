@@ -4,8 +4,8 @@ use Prim.Native.Nat.{_-_, _≤_}
 use native.Mathlib.Omega.{arith}
 use lib.ListN.{length}
 use borrow.Author.Needs.{needs}
-use Rattle.correct.proofs.Lines.{within, room, line-none, line-step, along-le}
-use Rattle.correct.specs.Start.{passOf}
+use Rattle.correct.proofs.Lines.{near, room, line-none, line-step}
+use Rattle.edge_at.specs.Bit.{passOf}
 use Rattle.correct.specs.Correct.{correctLine, gridIn}
 use Rattle.correct.proofs.edge.correct_line.Statement.{statement}
 use Rattle.correct.proofs.edge.correct_line.Tie as tie
@@ -19,17 +19,17 @@ abbrev μ-loop : tie.MeasureT-loop
 loop-holds : tie.Need-loop-holds Inv-loop μ-loop
 loop-holds c = (omega arith, refl, line-none _ _ _ _ _ _)
 
-add-edge-at : tie.Need-add-edge-at Inv-loop μ-loop
-add-edge-at c = omega (arith, along-le _ _ (within (c .before .before .before .before .before .args .l) _ _ (c .before .before .loop .i) (c .before .before .before .before .before .pre) (c .before .loop-test .taken)))
+add-edge-bit : tie.Need-add-edge-bit Inv-loop μ-loop
+add-edge-bit c = omega (arith, near (c .before .before .before .before .before .args .l) _ _ (c .before .before .before .before .before .pre) (c .before .before .loop .i) (c .before .loop-test .taken) .along-le)
 
-edge-at-requires : tie.Need-edge-at-requires Inv-loop μ-loop
-edge-at-requires c κs = within (c .before .before .before .before .before .args .l) _ _ (c .before .before .loop .i) (c .before .before .before .before .before .pre) (c .before .loop-test .taken)
+edge-bit-requires : tie.Need-edge-bit-requires Inv-loop μ-loop
+edge-bit-requires c κs = near (c .before .before .before .before .before .args .l) _ _ (c .before .before .before .before .before .pre) (c .before .before .loop .i) (c .before .loop-test .taken)
 
 shared-slice-read-correct-edge : tie.Need-shared-slice-read-correct-edge Inv-loop μ-loop
 shared-slice-read-correct-edge c = omega (arith, c .before .before .before .before .before .before .before .before .pre .context-long)
 
 correct-edge-requires : tie.Need-correct-edge-requires Inv-loop μ-loop
-correct-edge-requires c κs = let w = within (c .before .before .before .before .before .before .before .before .args .l) _ _ (c .before .before .before .before .before .loop .i) (c .before .before .before .before .before .before .before .before .pre) (c .before .before .before .before .loop-test .taken) in room (c .before .before .before .before .before .before .before .before .args .l) _ w _ _ (c .before .before .edge-at .ensures) (omega (arith, c .before .before .before .before .before .before .before .before .pre .long, c .before .before .before .before .before .loop .inv .1))
+correct-edge-requires c κs = let l = c .before .before .before .before .before .before .before .before .args .l in room l _ _ (c .before .before .before .before .before .before .before .before .pre) (c .before .before .before .before .before .loop .i) (c .before .before .before .before .loop-test .taken) _ _ (c .before .before .edge-bit .ensures (l .h4 .0)) (c .before .before .before .before .before .loop .inv .1)
 
 add-i : tie.Need-add-i Inv-loop μ-loop
 add-i c = search needs
@@ -38,7 +38,7 @@ loop-less : tie.Need-loop-less Inv-loop μ-loop
 loop-less c = search needs
 
 loop-again : tie.Need-loop-again Inv-loop μ-loop
-loop-again c = (omega arith, c .before .before .correct-edge .kept .0 ∙ c .before .before .before .before .before .before .before .before .loop .inv .1, line-step _ _ _ _ _ _ _ _ _ _ (c .before .before .before .before .before .before .before .before .loop .inv .2) (c .before .before .before .before .before .edge-at .ensures) (c .before .before .correct-edge .ensures))
+loop-again c = (omega arith, c .before .before .correct-edge .kept .0 ∙ c .before .before .before .before .before .before .before .before .loop .inv .1, line-step _ _ _ _ _ _ _ _ _ _ (c .before .before .before .before .before .before .before .before .loop .inv .2) (c .before .before .before .before .before .edge-bit .ensures (c .before .before .before .before .before .before .before .before .before .before .before .args .l .h4 .0)) (c .before .before .correct-edge .ensures))
 
 same-length : tie.Need-same-length Inv-loop μ-loop
 same-length c = c .before .loop .inv .1
@@ -53,8 +53,8 @@ correct-line-spec =
     Inv-loop
     μ-loop
     loop-holds
-    add-edge-at
-    edge-at-requires
+    add-edge-bit
+    edge-bit-requires
     shared-slice-read-correct-edge
     correct-edge-requires
     add-i

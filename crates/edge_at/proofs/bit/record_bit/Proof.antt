@@ -3,8 +3,8 @@ use mathlib.Core.Path.{refl}
 use native.Mathlib.Omega.{arith}
 use borrow.Author.Needs.{needs}
 use Rattle.loops.proofs.Lists.{prod-le}
-use Rattle.correct.proofs.edge.record_bit.Statement.{statement}
-use Rattle.correct.proofs.edge.record_bit.Tie as tie
+use Rattle.edge_at.proofs.bit.record_bit.Statement.{statement}
+use Rattle.edge_at.proofs.bit.record_bit.Tie as tie
 
 records-along-requires : tie.Need-records-along-requires
 records-along-requires c κs = search needs

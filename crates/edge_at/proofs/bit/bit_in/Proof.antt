@@ -1,8 +1,8 @@
 -- `bit_in` meets its contract, by the kind of plane.
 use native.Mathlib.Omega.{arith}
-use Rattle.correct.proofs.Lines.{sides}
-use Rattle.correct.proofs.edge.bit_in.Statement.{statement}
-use Rattle.correct.proofs.edge.bit_in.Tie as tie
+use Rattle.edge_at.proofs.Bits.{sides}
+use Rattle.edge_at.proofs.bit.bit_in.Statement.{statement}
+use Rattle.edge_at.proofs.bit.bit_in.Tie as tie
 
 luma-bit-requires : tie.Need-luma-bit-requires
 luma-bit-requires c κs = let s = sides (c .before .args .ss) 0 (omega arith) in (omega arith, omega arith, omega arith, omega arith)

@@ -1,0 +1,104 @@
+-- The bit of a unit's edge is that of its record and of the unit in it, pass by pass; and units of a frame are near enough.
+use mathlib.Core.Path.{_≡_, refl}
+use mathlib.Core.Bool.{Bool, true, false, cond}
+use Prim.Native.Nat.{ℕ, _+_, _*_, _/_, _%_, _^_, _≤_, _<_}
+use native.Mathlib.Omega.{arith}
+use Rattle.loops.proofs.Lists.{prod-le}
+use Rattle.loops.proofs.Tables.{each-at}
+use Rattle.plane.specs.Line.{Pass, columns, rows, Piece}
+use Rattle.units.specs.Frame.{records}
+use Rattle.units.specs.Memory.{halfUnits, lumaBit, chromaBit}
+use Rattle.units.proofs.Places.{chroma-units-le, luma-bit-in, chroma-bit-in}
+use Rattle.edges.specs.Edges.{Grid, Proper, other, unitsOf, side, recordAt, bitIn, edgeBit}
+use Rattle.edge_at.specs.Bit.{passOf, Near}
+
+pub record Sides (ss u : ℕ) : Type 0 where
+  pub some : 0 < 32 / 2 ^ ss
+  pub few : 32 / 2 ^ ss ≤ 32
+  pub fewer : u / (32 / 2 ^ ss) ≤ u
+  pub rest : u % (32 / 2 ^ ss) < 32 / 2 ^ ss
+  pub halves : 32 / 2 ^ ss ≤ 2 * halfUnits ss
+
+pub sides : (ss u : ℕ) → ss ≤ 1 → Sides ss u
+sides ss u h =
+    each-at 2 (λ s. Sides s u) (
+      record { some = omega arith; few = omega arith; fewer = omega arith; rest = omega arith; halves = omega arith },
+      (record { some = omega arith; few = omega arith; fewer = omega arith; rest = omega arith; halves = omega arith }, tt),
+    ) ss (omega arith)
+
+-- both places of a unit, to the right and down, whichever the pass
+pub record Lies (hor ver across along : ℕ) : Type 0 where
+  pub across-right : Sides hor across
+  pub across-down : Sides ver across
+  pub along-right : Sides hor along
+  pub along-down : Sides ver along
+
+pub lies : (hor ver w4 across along : ℕ) → Near hor ver w4 across along → Lies hor ver across along
+lies hor ver w4 across along n =
+    record {
+      across-right = sides hor across (n .hor-le);
+      across-down = sides ver across (n .ver-le);
+      along-right = sides hor along (n .hor-le);
+      along-down = sides ver along (n .ver-le);
+    }
+
+bit-small : (luma : Bool) (ss pass unit place : ℕ) → ss ≤ 1 → pass < 2 → unit < 32 → place < 32 / 2 ^ ss
+    → cond luma (lumaBit pass unit 0 place) (chromaBit ss pass unit 0 place) < 10240
+bit-small true ss pass unit place a b c d =
+    let s = sides ss 0 a in omega (arith, luma-bit-in pass unit 0 place b c (omega arith) (omega arith))
+bit-small false ss pass unit place a b c d =
+    let s = sides ss 0 a in omega (arith, chroma-bit-in ss pass unit 0 place a b c (omega arith) (omega arith))
+
+record-small : (w4 right down : ℕ) → w4 ≤ 4096 → right ≤ 4096 → down ≤ 4096 → 10240 * (down * records w4 + right) ≤ 5410652160
+record-small w4 right down w r d = omega (arith, prod-le down (records w4) 4096 128 d (omega arith))
+
+pub edge-small : (G : Grid) (d : Pass) (u v : ℕ) → Near (G .ssx) (G .ssy) (G .w4) u v → edgeBit G d (u, v) 0 < 1099511627776
+unfolding edgeBit
+edge-small G d u v n = go d
+  where
+    p : Lies (G .ssx) (G .ssy) u v
+    p = lies (G .ssx) (G .ssy) (G .w4) u v n
+
+    go : (d : Pass) → 10240 * recordAt G d (u / side G d) (v / side G (other d)) + bitIn G d (u % side G d) 0 (v % side G (other d)) < 1099511627776
+    go columns =
+        omega (
+          arith,
+          record-small (G .w4) (u / side G columns) (v / side G rows) (n .wide) (omega (arith, p .across-right, n .across-le)) (omega (arith, p .along-down, n .along-le)),
+          bit-small (G .isLuma) (G .ssy) 0 (u % side G columns) (v % side G rows) (n .ver-le) (omega arith) (omega (arith, p .across-right)) (p .along-down .rest),
+        )
+    go rows =
+        omega (
+          arith,
+          record-small (G .w4) (v / side G columns) (u / side G rows) (n .wide) (omega (arith, p .along-right, n .along-le)) (omega (arith, p .across-down, n .across-le)),
+          bit-small (G .isLuma) (G .ssx) 1 (u % side G rows) (v % side G columns) (n .hor-le) (omega arith) (omega (arith, p .across-down)) (p .along-right .rest),
+        )
+
+module _ (G : Grid) (b : Bool) (u v x y : ℕ) where
+  pub row-edge : b ≡ true → x ≡ 10240 * (u / (32 / 2 ^ G .ssy) * records (G .w4) + v / (32 / 2 ^ G .ssx))
+      → y ≡ cond (G .isLuma) (lumaBit 1 (u % (32 / 2 ^ G .ssy)) 0 (v % (32 / 2 ^ G .ssx))) (chromaBit (G .ssx) 1 (u % (32 / 2 ^ G .ssy)) 0 (v % (32 / 2 ^ G .ssx)))
+      → x + y ≡ edgeBit G (passOf b) (u, v) 0
+  unfolding edgeBit
+  row-edge e p q = rw (e, p, q) refl
+
+  pub column-edge : b ≡ false → x ≡ 10240 * (v / (32 / 2 ^ G .ssy) * records (G .w4) + u / (32 / 2 ^ G .ssx))
+      → y ≡ cond (G .isLuma) (lumaBit 0 (u % (32 / 2 ^ G .ssx)) 0 (v % (32 / 2 ^ G .ssy))) (chromaBit (G .ssy) 0 (u % (32 / 2 ^ G .ssx)) 0 (v % (32 / 2 ^ G .ssy)))
+      → x + y ≡ edgeBit G (passOf b) (u, v) 0
+  unfolding edgeBit
+  column-edge e p q = rw (e, p, q) refl
+
+-- ---- a unit of the frame
+
+units-le : (G : Grid) → Proper G → G .w4 ≤ 4096 → G .h4 ≤ 4096 → (d : Pass) → unitsOf G d ≤ 4096
+units-le G P w h columns = omega (arith, chroma-units-le (G .w4) (G .ssx) (P .ssx-le))
+units-le G P w h rows = omega (arith, chroma-units-le (G .h4) (G .ssy) (P .ssy-le))
+
+pub unit-near : (G : Grid) → Proper G → G .w4 ≤ 4096 → G .h4 ≤ 4096 → (d : Pass) (p : Piece) → p .0 < unitsOf G d → p .1 < unitsOf G (other d)
+    → Near (G .ssx) (G .ssy) (G .w4) (p .0) (p .1)
+unit-near G P w h d p x y =
+    record {
+      hor-le = P .ssx-le;
+      ver-le = P .ssy-le;
+      wide = w;
+      across-le = omega (arith, units-le G P w h d);
+      along-le = omega (arith, units-le G P w h (other d));
+    }

@@ -1,0 +1,16 @@
+-- The bit of an edge, as the code finds it.
+--   passOf rows     the row pass, or the column pass
+--   Near            what is asked: a plane's subsampling, and a width and a unit of a frame
+use mathlib.Core.Bool.{Bool, cond}
+use Prim.Native.Nat.{ℕ, _≤_}
+use Rattle.plane.specs.Line.{Pass, columns, rows}
+
+abbrev pub passOf : Bool → Pass
+passOf b = cond b rows columns
+
+pub record Near (hor ver w4 across along : ℕ) : Type 0 where
+  pub hor-le : hor ≤ 1
+  pub ver-le : ver ≤ 1
+  pub wide : w4 ≤ 4096
+  pub across-le : across ≤ 4096
+  pub along-le : along ≤ 4096
