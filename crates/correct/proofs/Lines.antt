@@ -10,9 +10,9 @@ use Rattle.loops.proofs.Runs.{upTo-again}
 use Rattle.plane.specs.Line.{Pass}
 use Rattle.units.specs.Frame.{records, frameRecords}
 use Rattle.edges.specs.Edges.{Grid, other, unitsOf, edgeBit}
-use Rattle.edges.proofs.Bits.{class-apart, edge-bit-in}
+use Rattle.edges.proofs.Bits.{class-apart}
 use Rattle.edge_at.specs.Bit.{passOf, Near}
-use Rattle.edge_at.proofs.Bits.{unit-near}
+use Rattle.edge_at.proofs.Bits.{unit-near, class-bit-in}
 use Rattle.correct.specs.declared.Line.{Line}
 use Rattle.correct.specs.Correct.{corrected, correctLine, gridIn, Room, Fits}
 
@@ -30,12 +30,7 @@ module _ (l : Line) (masks context : ℕ) (f : Fits l masks context) (i : ℕ) (
 
   bit-lt : (c : ℕ) → c < cond (l .luma) 4 2
       → edgeBit (gridIn l) (passOf (l .rows)) (l .across, l .first + i) 0 + 32 * c < 10240 * frameRecords (l .w4 .0) (l .h4 .0)
-  bit-lt c k =
-      omega (
-        arith,
-        class-apart (gridIn l) (passOf (l .rows)) (l .across, l .first + i) c,
-        edge-bit-in (gridIn l) (f .proper) (passOf (l .rows)) (l .across, l .first + i) c (f .across-in) along-in k,
-      )
+  bit-lt c k = class-bit-in (gridIn l) (f .proper) (passOf (l .rows)) (l .across, l .first + i) c (f .across-in) along-in k
 
   some-class : (b : Bool) → 1 < cond b 4 2
   some-class true = omega arith

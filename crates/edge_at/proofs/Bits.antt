@@ -1,4 +1,4 @@
--- The bit of a unit's edge is that of its record and of the unit in it, pass by pass; and units of a frame are near enough.
+-- The bit of a unit's edge is that of its record and of the unit in it, pass by pass; and of a unit of the frame it lies in the masks.
 use mathlib.Core.Path.{_≡_, refl}
 use mathlib.Core.Bool.{Bool, true, false, cond}
 use Prim.Native.Nat.{ℕ, _+_, _*_, _/_, _%_, _^_, _≤_, _<_}
@@ -6,10 +6,11 @@ use native.Mathlib.Omega.{arith}
 use Rattle.loops.proofs.Lists.{prod-le}
 use Rattle.loops.proofs.Tables.{each-at}
 use Rattle.plane.specs.Line.{Pass, columns, rows, Piece}
-use Rattle.units.specs.Frame.{records}
+use Rattle.units.specs.Frame.{records, frameRecords}
 use Rattle.units.specs.Memory.{halfUnits, lumaBit, chromaBit}
 use Rattle.units.proofs.Places.{chroma-units-le, luma-bit-in, chroma-bit-in}
 use Rattle.edges.specs.Edges.{Grid, Proper, other, unitsOf, side, recordAt, bitIn, edgeBit}
+use Rattle.edges.proofs.Bits.{class-apart, edge-bit-in}
 use Rattle.edge_at.specs.Bit.{passOf, Near}
 
 pub record Sides (ss u : ℕ) : Type 0 where
@@ -102,3 +103,8 @@ unit-near G P w h d p x y =
       across-le = omega (arith, units-le G P w h d);
       along-le = omega (arith, units-le G P w h (other d));
     }
+
+-- the bits of its classes lie in the masks
+pub class-bit-in : (G : Grid) → Proper G → (d : Pass) (p : Piece) (c : ℕ) → p .0 < unitsOf G d → p .1 < unitsOf G (other d) → c < cond (G .isLuma) 4 2
+    → edgeBit G d p 0 + 32 * c < 10240 * frameRecords (G .w4) (G .h4)
+class-bit-in G P d p c x y h = omega (arith, class-apart G d p c, edge-bit-in G P d p c x y h)

@@ -1,8 +1,9 @@
 -- The highest class, found from the top.
-use mathlib.Core.Bool.{Bool, true, false}
+use mathlib.Core.Bool.{Bool, true, false, cond}
 use mathlib.Core.List.{List}
+use mathlib.Core.Option.{some, none}
 use mathlib.Core.Path.{_≡_, refl, sym, ap, _∙_}
-use Prim.Native.Nat.{ℕ, zero, suc, _+_, _*_}
+use Prim.Native.Nat.{ℕ, zero, suc, _+_, _*_, _<_}
 use native.Mathlib.Omega.{arith}
 use Rattle.bits.specs.Mark.{isSet}
 use Rattle.plane.specs.Line.{Pass, Piece}
@@ -45,6 +46,24 @@ unfolding classIn edge
 class-edge G ms d p h =
     simp h
     (ap classNo (highest-same (classes G) (λ c. isSet ms (edgeBit G d p 0 + 32 * c)) (λ c. isSet ms (edgeBit G d p c)) (λ c. ap (isSet ms) (sym (class-apart G d p c)))))
+
+highest-lt : (n : ℕ) (f : ℕ → Bool) (c : ℕ) → highest n f ≡ some c → c < n
+highest-lt zero f c e = let z : _≡_ {A = ℕ} 0 1 = cc in absurd (omega arith)
+highest-lt (suc n) f c e = go (f n) (highest-lt n f c) e
+  where
+    go : (b : Bool) → (highest n f ≡ some c → c < n) → cond b (some n) (highest n f) ≡ some c → c < suc n
+    go true h e = let z : n ≡ c = cc in omega arith
+    go false h e = omega (arith, h e)
+
+-- an edge has a class
+pub class-lt : (G : Grid) (ms : List ℕ) (d : Pass) (p : Piece) (c : ℕ) → edge G ms d p ≡ some c → c < noClass
+unfolding edge
+class-lt G ms d p c e = go (inFrame G d p) (G .isLuma) e
+  where
+    go : (b luma : Bool) → cond b (highest (cond luma 3 2) (λ k. isSet ms (edgeBit G d p k))) none ≡ some c → c < noClass
+    go true true e = highest-lt 3 (λ k. isSet ms (edgeBit G d p k)) c e
+    go true false e = omega (arith, highest-lt 2 (λ k. isSet ms (edgeBit G d p k)) c e)
+    go false luma e = let z : _≡_ {A = ℕ} 0 1 = cc in absurd (omega arith)
 
 pub promises : Promises
 promises = record { same = class-edge }
