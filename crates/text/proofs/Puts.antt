@@ -133,7 +133,7 @@ form-put line at l h p q r =
 
 -- ---- room
 
-field-short : (n b j : ℕ) → n < 10 ^ suc j → length (fieldText n b) ≤ suc j + 1
+pub field-short : (n b j : ℕ) → n < 10 ^ suc j → length (fieldText n b) ≤ suc j + 1
 field-short n b j h = omega (arith, field-long n b, decimal.promises .short n j h)
 
 pub promises : Promises
