@@ -1,0 +1,40 @@
+-- What is promised of a step.
+--   Proper s        from phase 1 on the frame is one that the listing takes
+--   Alike m n       each part of the lent memory has the same length
+--   Promises
+use mathlib.Core.Bool.{true}
+use mathlib.Core.List.{List, []}
+use mathlib.Core.Path.{_≡_}
+use Prim.Native.Nat.{ℕ, _<_, _≤_}
+use lib.ListN.{length}
+use Rattle.units.specs.Layout.{layoutOk}
+use Rattle.block.specs.Block.{w4, Lent}
+use Rattle.record.specs.Recorded.{Stored}
+use Rattle.script.specs.declared.Line.the-variants.{Block as BlockLine}
+use Rattle.steps.specs.declared.State.{State}
+use Rattle.steps.specs.Steps.{Kept, said, blockOf, atBlock, stepOf}
+
+pub record Proper (s : State) : Type 0 where
+  pub wide : 0 < s .phase → (1 ≤ s .width) × (s .width ≤ 256)
+  pub high : 0 < s .phase → (1 ≤ s .height) × (s .height ≤ 256)
+  pub layout : 0 < s .phase → layoutOk (s .layout) ≡ true
+
+pub record Alike (m n : Lent) : Type 0 where
+  pub levels : length (m .levels) ≡ length (n .levels)
+  pub masks : length (m .masks) ≡ length (n .masks)
+  pub above : length (m .above) ≡ length (n .above)
+  pub left : length (m .left) ≡ length (n .left)
+  pub above-uv : length (m .above-uv) ≡ length (n .above-uv)
+  pub left-uv : length (m .left-uv) ≡ length (n .left-uv)
+
+pub record Promises : Type 0 where
+  pub proper : (k : Kept) (s : List ℕ) → Proper (k .state) → Proper (stepOf k s .state)
+  pub alike : (k : Kept) (s : List ℕ) → Alike (stepOf k s .memory) (k .memory)
+  -- a line that is no accepted block leaves the memory alone; an accepted block is recorded, with contexts that begin at it
+  pub records : (k : Kept) (s : List ℕ) (x y size tx chroma uvtx : ℕ)
+      → k .state .number ≡ 0 → said s ≡ BlockLine x y size tx chroma uvtx → stepOf k s .state .number ≡ 0
+      → let b = blockOf (k .state) x y size tx chroma uvtx in
+      Stored b (w4 b) (k .values) [] (atBlock b (k .memory)) (atBlock b (stepOf k s .memory))
+  pub keeps : (k : Kept) (s : List ℕ)
+      → ((x y size tx chroma uvtx : ℕ) → ¬ (said s ≡ BlockLine x y size tx chroma uvtx)) → stepOf k s .memory ≡ k .memory
+  pub refused : (k : Kept) (s : List ℕ) → ¬ (stepOf k s .state .number ≡ 0) → stepOf k s .memory ≡ k .memory
