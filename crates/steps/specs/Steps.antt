@@ -1,7 +1,7 @@
 -- A script, line after line: document 01, "Edge listing".
 --   form                 the number that stands for `form`
 --   longest, said s      the bytes of the longest line; what the line s says
---   Kept, keptOf         what is kept from line to line: the frame, how far the script is, the level values and the lent memory
+--   Kept, kept, keptOf   what is kept from line to line: the frame, how far the script is, the level values and the lent memory
 --   stateOf, counted     a state of its fields; with one line more
 --   refusedBy, refused   the line is refused with the number n
 --   sideOk, depthOk, frameNumber     of a frame line; sides are 1 to 256 samples
@@ -47,9 +47,12 @@ pub record Kept : Type 0 where
   pub values : List ℕ
   pub memory : Lent
 
+abbrev pub kept : State → List ℕ → Lent → Kept
+kept s values m = record { state = s; values = values; memory = m }
+
 abbrev pub keptOf : State → List ℕ → List ℕ → List ℕ → List ℕ → List ℕ → List ℕ → List ℕ → Kept
 keptOf s values levels masks above left above-uv left-uv =
-    record { state = s; values = values; memory = lent levels masks above left above-uv left-uv }
+    kept s values (lent levels masks above left above-uv left-uv)
 
 abbrev pub stateOf : ℕ → ℕ → ℕ → ℕ → ℕ → ℕ → State
 stateOf line phase number width height layout =
@@ -62,7 +65,7 @@ abbrev pub refusedBy : State → ℕ → State
 refusedBy s n = stateOf (s .line) (s .phase) n (s .width) (s .height) (s .layout)
 
 abbrev pub refused : Kept → ℕ → Kept
-refused k n = record { state = refusedBy (k .state) n; values = k .values; memory = k .memory }
+refused k n = kept (refusedBy (k .state) n) (k .values) (k .memory)
 
 -- ---- a frame line
 
@@ -94,7 +97,7 @@ levelled k x =
     let s = k .state in
     let n = levelsNumber (s .layout) x in
     cond (eqb n 0)
-    (record { state = stateOf (s .line) 2 0 (s .width) (s .height) (s .layout); values = tabulate (byteAt x) 64; memory = k .memory })
+    (kept (stateOf (s .line) 2 0 (s .width) (s .height) (s .layout)) (tabulate (byteAt x) 64) (k .memory))
     (refused k n)
 
 -- ---- a block line
@@ -130,7 +133,7 @@ stored b values m =
 unfoldable pub blocked : Kept → Block → Kept
 blocked k b =
     let n = number b (w4 b) (atBlock b (k .memory)) in
-    cond (eqb n 0) (record { state = k .state; values = k .values; memory = stored b (k .values) (k .memory) }) (refused k n)
+    cond (eqb n 0) (kept (k .state) (k .values) (stored b (k .values) (k .memory))) (refused k n)
 
 -- ---- any line
 
@@ -138,7 +141,7 @@ blocked k b =
 abbrev pub taken : Kept → Line → Kept
 taken k (Frame width height layout depth superblock sharpness) =
     cond (eqb (k .state .phase) 0)
-    (record { state = framed (k .state) width height layout depth superblock sharpness; values = k .values; memory = k .memory })
+    (kept (framed (k .state) width height layout depth superblock sharpness) (k .values) (k .memory))
     (refused k form)
 taken k (Level columns rows u v) = cond (eqb (k .state .phase) 1) (levelled k (bases columns rows u v)) (refused k form)
 taken k (BlockLine x y size tx chroma uvtx) =
@@ -147,4 +150,4 @@ taken k Form = refused k form
 
 unfoldable pub stepOf : Kept → List ℕ → Kept
 stepOf k s =
-    cond (on (k .state .number)) k (taken (record { state = counted (k .state); values = k .values; memory = k .memory }) (said s))
+    cond (on (k .state .number)) k (taken (kept (counted (k .state)) (k .values) (k .memory)) (said s))
