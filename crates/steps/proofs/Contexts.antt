@@ -3,7 +3,7 @@ use mathlib.Core.Bool.{Bool, true, false, cond}
 use mathlib.Core.List.{List, [], _++_, append-nil}
 use mathlib.Core.Logic.{by-cases}
 use mathlib.Core.Path.{_≡_, refl, sym, ap, _∙_}
-use Prim.Native.Nat.{ℕ, _-_, _≤_, min}
+use Prim.Native.Nat.{ℕ, _-_, min}
 use native.Mathlib.Decide.{decLe}
 use native.Mathlib.Omega.{arith}
 use borrow.Rule.Slice.PartMut.{midOf, putMid}
@@ -12,8 +12,8 @@ use lib.ListN.{length, take, drop, take-append-drop, drop-of-length-le, length-d
 use lib.Seq.{take-all}
 use Rattle.block.specs.declared.Block.{Block}
 use Rattle.block.specs.Block.{w4, Lent, lent}
-use Rattle.record.specs.Record.{lumaLevels, chromaLevels, lumaMasks, chromaMasks, lumaAbove, lumaLeft, chromaAbove, chromaLeft, RecordAnswer}
-use Rattle.steps.specs.Steps.{cx, cy, atBlock, from, stored}
+use Rattle.record.specs.Record.{lumaAbove, lumaLeft, chromaAbove, chromaLeft, RecordAnswer}
+use Rattle.steps.specs.Steps.{cx, cy, from, stored}
 use Rattle.steps.specs.Blocks.{BlockAnswer}
 
 abbrev end : ℕ → List ℕ → List ℕ

@@ -1,5 +1,5 @@
 -- What a line does, case by case: the line comes out of turn, its number refuses it, or it is done; each rewrites the definition by its tests.
-use mathlib.Core.Bool.{Bool, true, false, cond}
+use mathlib.Core.Bool.{cond}
 use mathlib.Core.List.{List}
 use mathlib.Core.Path.{_≡_, refl, sym, _∙_}
 use Prim.Native.Nat.{ℕ}

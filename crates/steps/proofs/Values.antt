@@ -1,9 +1,8 @@
 -- The level values of a level line: a base above 63 is number 2, and the first 64 bytes that `levels` writes with no segments are the tabulated ones.
-use mathlib.Core.Bool.{Bool, true, false, cond, _||_}
+use mathlib.Core.Bool.{true, false, _||_}
 use mathlib.Core.List.{List, [], _∷_, _++_}
-use mathlib.Core.Path.{_≡_, refl, ap, _∙_}
+use mathlib.Core.Path.{_≡_, refl, _∙_}
 use Prim.Native.Nat.{ℕ, _<_, _≤_}
-use native.Mathlib.Omega.{arith}
 use borrow.Author.Tests.{ltb-false}
 use lib.Dec.{ltb}
 use lib.ListN.{length, getD, take, drop}
@@ -12,7 +11,7 @@ use Rattle.loops.specs.Any.{anyBelow}
 use Rattle.loops.specs.Table.{tabulate}
 use Rattle.loops.proofs.Anys.{any-each}
 use Rattle.loops.proofs.Tables.{length-tabulate}
-use Rattle.levels.specs.Levels.{LevelsIn, byteAt, levelsDone, outOfRange, levelsNumber}
+use Rattle.levels.specs.Levels.{byteAt, levelsDone, outOfRange, levelsNumber}
 use Rattle.steps.specs.Steps.{bases}
 
 module _ (layout columns rows u v : ℕ) where

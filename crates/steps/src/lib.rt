@@ -10,6 +10,7 @@ use script::Line;
 use script::read_line;
 ghost use mathlib.Core.Path.{_≡_};
 ghost use Prim.Native.Nat.{_<_};
+ghost use Rattle.steps.specs.Promises.{Promises};
 ghost use Rattle.steps.specs.Steps.{said, refusedBy, counted, keptOf, stepOf};
 
 const LONGEST: usize = 65535;
@@ -124,3 +125,8 @@ pub fn step(
         Line::Form => refused_by(t, FORM),
     }
 }
+
+// The theorems of specs/Promises.antt are proved.
+pub fn promised()
+    ensures { λ _. ⌜ Promises ⌝ }
+{}
