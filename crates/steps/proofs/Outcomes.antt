@@ -27,6 +27,12 @@ use Rattle.steps.proofs.Stores.{stored-is, stored-alike, stored-before}
 
 -- ---- what becomes of a line
 
+abbrev Accepts : Kept → Block → Type 0
+Accepts k b = number b (w4 b) (atBlock b (k .memory)) ≡ 0
+
+abbrev recorded : Kept → Block → Kept
+recorded k b = kept (k .state) (k .values) (stored b (k .values) (k .memory))
+
 data Outcome (k : Kept) : Line → Kept → Type 0 where
   refuses : {l : Line} (n : ℕ) → ¬ (n ≡ 0) → Outcome k l (refused k n)
   begins : {width height layout depth superblock sharpness : ℕ} → frameNumber width height layout depth superblock sharpness ≡ 0
@@ -35,8 +41,8 @@ data Outcome (k : Kept) : Line → Kept → Type 0 where
       → Outcome k (Level columns rows u v)
       (kept (stateOf (k .state .line) 2 0 (k .state .width) (k .state .height) (k .state .layout)) (tabulate (byteAt (bases columns rows u v)) 64) (k .memory))
   records : {x y size tx chroma uvtx : ℕ}
-      → number (blockOf (k .state) x y size tx chroma uvtx) (w4 (blockOf (k .state) x y size tx chroma uvtx)) (atBlock (blockOf (k .state) x y size tx chroma uvtx) (k .memory)) ≡ 0
-      → Outcome k (BlockLine x y size tx chroma uvtx) (kept (k .state) (k .values) (stored (blockOf (k .state) x y size tx chroma uvtx) (k .values) (k .memory)))
+      → Accepts k (blockOf (k .state) x y size tx chroma uvtx)
+      → Outcome k (BlockLine x y size tx chroma uvtx) (recorded k (blockOf (k .state) x y size tx chroma uvtx))
 
 outcome : (k : Kept) (l : Line) → Outcome k l (taken k l)
 unfolding framed levelled blocked

@@ -44,27 +44,34 @@ refused-by-requires c κs = search needs
 
 returns-2 : tie.Need-returns-2
 returns-2 c =
-    let a = c .before .before .before .before .before .before .before .before .before .args in
+    let d = c .before .before .before .before in
+    let a = d .before .before .before .before .before .args in
     let m = lent (now (a .levels)) (now (a .masks)) (now (a .above)) (now (a .left)) (now (a .above-uv)) (now (a .left-uv)) in
-    step-taken (a .s) (now (a .values)) m (now (a .line)) (c .before .before .before .before .before .before .if1 .left) (c .before .before .before .before .before .counted .ensures) (c .before .before .before .before .said .ensures) (c .before .before .l .given .1) (c .frame-line .ensures (now (a .values)) m)
+    step-taken (a .s) (now (a .values)) m (now (a .line)) (d .before .before .if1 .left) (d .before .counted .ensures) (d .said .ensures) (c .before .before .l .given .1)
+    (c .frame-line .ensures (now (a .values)) m)
 
 returns-3 : tie.Need-returns-3
 returns-3 c =
-    let a = c .before .before .before .before .before .before .before .before .before .before .args in
+    let d = c .before .before .before .before .before in
+    let a = d .before .before .before .before .before .args in
     let m = lent (now (a .levels)) (now (a .masks)) (now (a .above)) (now (a .left)) (now (a .above-uv)) (now (a .left-uv)) in
-    step-taken (a .s) (now (a .values)) m (now (a .line)) (c .before .before .before .before .before .before .before .if1 .left) (c .before .before .before .before .before .before .counted .ensures) (c .before .before .before .before .before .said .ensures) (c .before .before .before .l2 .given .1) (c .level-line .ensures m)
+    step-taken (a .s) (now (a .values)) m (now (a .line)) (d .before .before .if1 .left) (d .before .counted .ensures) (d .said .ensures) (c .before .before .before .l2 .given .1)
+    (c .level-line .ensures m)
 
 returns-4 : tie.Need-returns-4
 returns-4 c =
-    let a = c .before .before .before .before .before .before .before .before .before .before .before .before .before .before .before .before .args in
+    let d = c .before .before .before .before .before .before .before .before .before .before .before in
+    let a = d .before .before .before .before .before .args in
     let m = lent (now (a .levels)) (now (a .masks)) (now (a .above)) (now (a .left)) (now (a .above-uv)) (now (a .left-uv)) in
-    step-taken (a .s) (now (a .values)) m (now (a .line)) (c .before .before .before .before .before .before .before .before .before .before .before .before .before .if1 .left) (c .before .before .before .before .before .before .before .before .before .before .before .before .counted .ensures) (c .before .before .before .before .before .before .before .before .before .before .before .said .ensures) (c .before .before .before .before .before .before .before .before .before .l3 .given .1) (c .block-line .ensures)
+    step-taken (a .s) (now (a .values)) m (now (a .line)) (d .before .before .if1 .left) (d .before .counted .ensures) (d .said .ensures) (c .before .before .before .before .before .before .before .before .before .l3 .given .1)
+    (c .block-line .ensures)
 
 returns-5 : tie.Need-returns-5
 returns-5 c =
-    let a = c .before .before .before .before .before .before .before .before .args in
+    let d = c .before .before .before in
+    let a = d .before .before .before .before .before .args in
     let m = lent (now (a .levels)) (now (a .masks)) (now (a .above)) (now (a .left)) (now (a .above-uv)) (now (a .left-uv)) in
-    step-taken (a .s) (now (a .values)) m (now (a .line)) (c .before .before .before .before .before .if1 .left) (c .before .before .before .before .counted .ensures) (c .before .before .before .said .ensures) (c .before .enum-told .given .1)
+    step-taken (a .s) (now (a .values)) m (now (a .line)) (d .before .before .if1 .left) (d .before .counted .ensures) (d .said .ensures) (c .before .enum-told .given .1)
     (ap (λ (r : State). kept r (now (a .values)) m) (c .refused-by .ensures))
 
 pub step-spec : {M : Type 1} → statement M
