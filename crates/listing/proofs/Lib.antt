@@ -1,0 +1,10 @@
+pub mod Lines
+pub mod Runs
+pub mod Takes
+pub mod Feeds
+pub mod Drawn
+pub mod Bounds
+pub mod Lefts
+pub mod Rooms
+pub mod Texts
+pub mod Answers
