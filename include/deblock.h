@@ -1,7 +1,7 @@
 // Verified AV1 deblocking: the calls of libdeblock.a, which `rt staticlib deblock` builds.
 //
-// A call ends on all input, keeps no state, checks its own arguments, and answers one number: of those that hold,
-// the lowest, each given exactly when docs/01-scope.md says ("Numbers returned"). If it is not DEBLOCK_OK, nothing
+// A call ends on all input, keeps no state, checks its own arguments, and answers one number (deblock_list: a length): of those
+// that hold, the lowest, each given exactly when docs/01-scope.md says ("Numbers returned"). If it is not DEBLOCK_OK, nothing
 // is stored. What it answers and stores is its contract in crate `deblock`, proved (docs/CONTRACTS.md). C leaves to
 // the caller: a pointer is aligned, is not null, even of length 0, and has as many elements behind it as its length,
 // or the number in brackets; and what is lent to a call and not const overlaps nothing else that is lent to it.
@@ -109,6 +109,10 @@ uint32_t deblock_rows_16(uint16_t *luma, size_t luma_len, size_t luma_stride, ui
                          const uint16_t *masks, size_t masks_len, const uint8_t e[64], const uint8_t i[64],
                          uint32_t depth, uint32_t width, uint32_t height, uint32_t layout, uint32_t superblock,
                          uint32_t level_u, uint32_t level_v, uint32_t row);
+
+// The edge listing of a script ("Edge listing"). Answers the bytes of its output, and stores them if there is room for
+// all, else nothing; 393255 bytes suffice for any script. It takes about 420000 bytes of stack.
+size_t deblock_list(const uint8_t *script, size_t script_len, uint8_t *out, size_t out_len);
 
 #ifdef __cplusplus
 }

@@ -1,5 +1,6 @@
 // The calls for C and Rust: a slice is a pointer and a length, a table a pointer.
 mod corrections;
 mod filtering;
+mod list;
 mod recording;
 mod tables;
