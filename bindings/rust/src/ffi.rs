@@ -208,4 +208,11 @@ extern "C" {
         level_v: u32,
         row: u32,
     ) -> u32;
+
+    pub fn deblock_list(
+        script: *const u8,
+        script_len: usize,
+        out: *mut u8,
+        out_len: usize,
+    ) -> usize;
 }

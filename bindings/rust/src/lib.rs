@@ -10,6 +10,8 @@
 //! 3. [`correct_column`] and [`correct_row`] at the start of each tile;
 //! 4. [`columns_8`] and [`rows_8`], or [`columns_16`] and [`rows_16`], for each superblock row.
 //!
+//! [`list`] lists the edges of a script's blocks.
+//!
 //! The rows of a superblock row wait for its columns and those of all rows above; beyond that every order gives the
 //! same samples. Planes are lent to one call at a time: workers that share a frame take turns.
 //!
@@ -66,6 +68,7 @@ mod corrections;
 mod ffi;
 mod filtering;
 mod frame;
+mod listing;
 mod recording;
 mod refusal;
 mod tables;
@@ -73,6 +76,7 @@ mod tables;
 pub use corrections::{correct_column, correct_row};
 pub use filtering::{columns_16, columns_8, rows_16, rows_8, Pass, Planes};
 pub use frame::{Depth, Frame, Layout};
+pub use listing::list;
 pub use recording::{record_inter, record_intra, Block, Contexts, Inter, Records};
 pub use refusal::Refusal;
 pub use tables::{levels, limits, Header, Limits};
