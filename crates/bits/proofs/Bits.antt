@@ -9,7 +9,7 @@ use native.Mathlib.Numerals.{one-add}
 use native.Mathlib.Decide.{ℕ-discrete, decLt}
 use lib.Dec.{eqb, ltb, leb}
 use lib.Arith.{digits-mod}
-use lib.Pow.{pow-pos, pow-lt, pow-mono, pow-add, shr-shr, shl-exact, high, high-ones, ones-lt, split}
+use lib.Pow.{pow-pos, pow-lt, pow-mono, pow-add, shr-shr, shl-exact, high, high-ones, ones-lt}
 use lib.Bits.{bitAnd, bitOr, or-shr, and-shr, or-step, and-step, and-high}
 use borrow.Author.Tests.{eq-eqb, ne-eqb, lt-ltb, le-ltb, le-leb, lt-leb}
 use Rattle.bits.specs.Bit.{bit, hasBit}
@@ -170,15 +170,6 @@ hasBit-run n k j = rw (high-ones n k, ← add-zero ((2 ^ n - 1) * 2 ^ k)) (go (d
         let l : n ≤ j - k = omega arith in
         rw (le-leb k j (omega arith), le-ltb j (k + n) (omega arith))
         (hasBit-0 _ _ (from (omega arith) ∙ bit-small (2 ^ n - 1) (j - k) (omega (arith, ones-lt n, pow-mono l))))
-
--- the halves of a word
-pub has-lo : (w j : ℕ) → j < 16 → hasBit (w % 2 ^ 16) j ≡ hasBit w j
-has-lo w j h =
-    has-of-bit (w % 2 ^ 16) w j j (sym (bit-low (w / 2 ^ 16) (w % 2 ^ 16) 16 j (omega arith) h) ∙ ap (λ (x : ℕ). bit x j) (split w 16))
-
-pub has-hi : (w j : ℕ) → hasBit (w / 2 ^ 16) j ≡ hasBit w (16 + j)
-has-hi w j =
-    has-of-bit (w / 2 ^ 16) w j (16 + j) (sym (bit-high (w / 2 ^ 16) (w % 2 ^ 16) 16 j (omega arith)) ∙ ap (λ (x : ℕ). bit x (16 + j)) (split w 16))
 
 -- ---- tests and words of code
 

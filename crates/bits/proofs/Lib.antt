@@ -1,5 +1,4 @@
 pub mod Bits
 pub mod Marks
-pub mod Runs
 pub mod Words
 pub mod Walks

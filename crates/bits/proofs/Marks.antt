@@ -7,11 +7,12 @@ use Prim.Native.Nat.{ℕ, zero, suc, _+_, _-_, _*_, _/_, _%_, _^_, _<_}
 use native.Mathlib.Omega.{arith}
 use native.Mathlib.Nat.{le-refl}
 use native.Mathlib.Numerals.{add-one}
-use native.Mathlib.Decide.{ℕ-discrete}
+use native.Mathlib.Decide.{ℕ-discrete, decLt}
 use lib.Dec.{eqb}
-use lib.Bits.{bitAnd, bitOr}
+use lib.Bits.{bitAnd, bitOr, or-lt}
+use lib.Pow.{pow-lt}
 use lib.ListN.{length, getD, set, length-set}
-use lib.Seq.{getD-set-same, getD-set-other, ext-getD}
+use lib.Seq.{getD-set-same, getD-set-other, set-out, ext-getD}
 use borrow.Author.Tests.{eq-eqb, ne-eqb}
 use Rattle.loops.specs.Run.{upTo}
 use Rattle.loops.specs.Any.{anyBelow}
@@ -125,3 +126,20 @@ length-marks (suc n) f ms = length-mark (marks n f ms) (f n) ∙ length-marks n 
 pub isSet-marks : (n : ℕ) (f : ℕ → ℕ) (ms : List ℕ) → ((y : ℕ) → y < n → f y / 16 < length ms) → (x : ℕ)
     → isSet (marks n f ms) x ≡ (isSet ms x || anyBelow n (λ y. eqb (f y) x))
 isSet-marks n f ms h = adds-marks (length ms) n f h .bits ms refl
+
+-- ---- words stay words
+
+pub words-or : (ms : List ℕ) (i w : ℕ) → w < 2 ^ 16 → Words ms → Words (set ms i (bitOr (getD ms i 0) w))
+unfolding Words
+words-or ms i w hw h j = go (ℕ-discrete j i) (decLt i (length ms))
+  where
+    go : Dec (j ≡ i) → Dec (i < length ms) → getD (set ms i (bitOr (getD ms i 0) w)) j 0 < 2 ^ 16
+    go (yes p) (yes q) = rw (p, getD-set-same ms i (bitOr (getD ms i 0) w) 0 q) (or-lt 16 (getD ms i 0) w (h i) hw)
+    go (yes p) (no q) = rw (set-out ms i (bitOr (getD ms i 0) w) (omega arith)) (h j)
+    go (no p) q = rw (getD-set-other ms i j (bitOr (getD ms i 0) w) 0 p) (h j)
+
+pub words-marks : (n : ℕ) (f : ℕ → ℕ) (ms : List ℕ) → Words ms → Words (marks n f ms)
+unfolding marks mark
+words-marks zero f ms h = h
+words-marks (suc n) f ms h =
+    words-or (marks n f ms) (f n / 16) (2 ^ (f n % 16)) (pow-lt {i = f n % 16} {j = 16} (omega arith)) (words-marks n f ms h)

@@ -1,11 +1,10 @@
 // Bits of words, and a list of words as a set of bits.
 ghost use mathlib.Core.Path.{_≡_};
-ghost use Prim.Native.Nat.{_+_, _-_, _*_, _/_, _%_, _^_, _≤_, _<_};
+ghost use Prim.Native.Nat.{_+_, _-_, _*_, _/_, _^_, _≤_, _<_};
 ghost use lib.Bits.{bitAnd};
-ghost use lib.Dec.{eqb};
 ghost use lib.ListN.{length};
 ghost use Rattle.bits.specs.Bit.{hasBit};
-ghost use Rattle.bits.specs.Mark.{isSet, mark, marks, unmark};
+ghost use Rattle.bits.specs.Mark.{isSet, mark, unmark};
 
 // The word of one bit.
 pub fn bit16(k: u32) -> u16
@@ -37,14 +36,6 @@ pub fn has(m: u16, k: u16) -> bool
     (m >> k) % 2 == 1
 }
 
-// No bit at or above place k.
-pub fn none_above(m: u16, k: u16) -> bool
-    requires { ⌜ k < 16 ⌝ }
-    ensures { λ r. ⌜ r ≡ eqb (m / 2 ^ k) 0 ⌝ }
-{
-    m >> k == 0
-}
-
 pub fn without(m: u16, k: u32) -> u16
     requires { ⌜ k < 16 ⌝ }
     ensures { λ r. ⌜ r ≡ bitAnd m ((2 ^ 16 - 1) - 2 ^ k) ⌝ }
@@ -74,17 +65,4 @@ pub fn clear_bit(masks: &mut [u16], e: usize)
 {
     let at = e / 16;
     masks[at] = without(masks[at], (e % 16) as u32);
-}
-
-// The n bits from e on, which lie in the 32 bits from a multiple of 32 on: two words at once.
-pub fn set_run(masks: &mut [u16], e: usize, n: usize)
-    requires { ⌜ (e % 32 + n ≤ 32) × (e / 32 * 2 + 1 < length (now masks)) ⌝ }
-    ensures { λ _. ⌜ now (masks .exit) ≡ marks n (λ y. e + y) (now (masks .entry)) ⌝ }
-{
-    let at = e / 32 * 2;
-    let w = run_word((e % 32) as u32, n as u32);
-    let lo = (w % 65536) as u16;
-    let hi = (w / 65536) as u16;
-    masks[at] = masks[at] | lo;
-    masks[at + 1] = masks[at + 1] | hi;
 }

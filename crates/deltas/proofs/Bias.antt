@@ -8,7 +8,7 @@ use lib.Signed.{mag, nonNeg}
 use mir.Syntax.{w8, w32}
 use mir.Val.{toZ, ofZ, Fits, SFits}
 use mir.ValLaws.{toZ-ofZ}
-use Rattle.deltas.proofs.Ints.{is-pos, is-neg}
+use Rattle.loops.proofs.Ints.{is-pos, is-neg}
 
 -- what a callee is handed of an i8 that was read
 pub seen : (d : ℤ) → mag d < 128 → toZ w8 (ofZ w8 d) ≡ d

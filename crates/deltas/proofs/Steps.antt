@@ -12,14 +12,15 @@ use lib.Signed.{ltZ}
 use Rattle.standard.specs.Math.{Clip3}
 use Rattle.standard.specs.Level.{baseFilterLevel, lvlSeg, lvlDelta, shl, nShift}
 use Rattle.deltas.specs.Deltas.{on, outside}
-use Rattle.deltas.proofs.Ints.{is-neg, is-pos, sub-eq, pos-sub, neg-sub, add-sub, plus-sub, sub-plus, times-one, times-two, lt-sub}
+use Rattle.loops.proofs.Ints.{is-neg, is-pos, sub-eq, pos-sub, neg-pos, add-sub, lt-sub}
+use Rattle.deltas.proofs.Ints.{plus-sub, sub-plus, times-one, times-two}
 
 -- ---- d below -n or above 63, of d = u - 128
 
 pub outside-biased : (u n : ℕ) (d : ℤ) → subℕ u 128 ≡ d → outside n d ≡ (ltb (u + n) 128 || ltb 191 u)
 unfolding outside
 outside-biased u n d e =
-    let p : ltZ (subℕ u 128) (negℤ (pos n)) ≡ ltb (u + n) 128 = rw (neg-sub n) (lt-sub u 128 0 n) in
+    let p : ltZ (subℕ u 128) (negℤ (pos n)) ≡ ltb (u + n) 128 = rw (neg-pos n) (lt-sub u 128 0 n) in
     let z : u + 0 ≡ u = omega arith in
     let q : ltZ (pos 63) (subℕ u 128) ≡ ltb 191 u = rw (pos-sub 63) (lt-sub 63 0 u 128 ∙ ap (ltb 191) z) in
     rw (← e) (ap₂ _||_ p q)

@@ -6,7 +6,7 @@ use mathlib.Core.List.{List, [], _∷_}
 use mathlib.Core.Logic.{_≢_, ⊎-elim}
 use mathlib.Core.Option.{Option, some, none}
 use Prim.Native.Nat.{ℕ, suc, _*_, _/_, _<_}
-use native.Mathlib.Nat.{div-add-mod', mod-lt, div-lt-iff-lt-mul, mul-le-mul-right}
+use native.Mathlib.Nat.{div-lt-iff-lt-mul, mul-le-mul-right}
 use native.Mathlib.Omega.{arith}
 use lib.Dec.{eqb}
 use Rattle.loops.specs.Run.{run, pieces, upTo}
@@ -18,7 +18,7 @@ use Rattle.plane.specs.Three.{Three}
 use Rattle.plane.proofs.Pieces.{Fair, inner-some, idle, local, apart, past, ahead}
 use Rattle.units.specs.Frame.{superblocks}
 use Rattle.order.specs.Demand3.{Demand3}
-use Rattle.order.proofs.Frames.{demand3}
+use Rattle.order.proofs.Frames.{demand3, row-of}
 use Rattle.filter.specs.declared.Component.{Component}
 use Rattle.filter.specs.Filter.{Tables, planeOf}
 use Rattle.filter.proofs.Sweeps as filter
@@ -53,13 +53,6 @@ module _ (P : Plane) where
 -- ---- a plane that keeps the rule
 
 module _ (P : Plane) (k : Kept P) (f : Fair (P .widths)) where
-  row-of : (d : Pass) (p : Piece) → InRow P d (down d p / P .sb) p
-  row-of d p =
-      record {
-        from = omega (arith, div-add-mod' (down d p) (P .sb));
-        to = omega (arith, div-add-mod' (down d p) (P .sb), mod-lt (down d p) (k .some-sb));
-      }
-
   sound-kept : Sound P
   sound-kept =
       record {
@@ -67,7 +60,7 @@ module _ (P : Plane) (k : Kept P) (f : Fair (P .widths)) where
         row = λ d p e. (
           down d p / P .sb,
           div-lt-iff-lt-mul (k .some-sb) .1 (k .from-top d p (e .cls) (inner-some (p .0) _ _ (e .is) .1)),
-          row-of d p,
+          row-of P k d p,
         );
         same = λ d i j n p q a b. commute (local P k f d p) (local P k f d q)
             (apart P k f d p q (λ e. n (one-row P d q i j (subst (InRow P d i) e a) b)));

@@ -1,94 +1,61 @@
 -- A piece is the standard's, line by line: a store stands at a line and a place that its index tells, so each line holds what its rule gives,
 -- whatever the other lines store.
-use Prim.Native.Nat.{ℕ, zero, suc, _+_, _-_, _*_, _/_, _%_, _≤_, _<_}
+use Prim.Native.Nat.{ℕ, zero, suc, _+_, _-_, _*_, _≤_, _<_}
 use native.Mathlib.Decide.{decLe, decLt, ℕ-discrete}
-use native.Mathlib.Nat.{add-mul, mul-le-mul-right}
+use native.Mathlib.Nat.{mul-le-mul-right}
 use native.Mathlib.Omega.{arith}
 use mathlib.Core.Bool.{Bool, true, false, cond}
 use mathlib.Core.List.{List, [], _∷_}
-use mathlib.Core.Logic.{_≢_, by-cases}
+use mathlib.Core.Logic.{by-cases}
 use mathlib.Core.Path.{_≡_, refl, sym, ap, _∙_}
 use borrow.Author.Tests.{ltb-true, ltb-false}
-use lib.Arith.{digits-div, digits-mod}
 use lib.Dec.{ltb}
 use lib.ListN.{length, getD, set, length-set}
-use lib.Seq.{getD-set-same, getD-set-other}
+use lib.Seq.{getD-set-same}
 use Rattle.loops.specs.Run.{upTo}
-use Rattle.plane.specs.Line.{Pass, columns, rows, Piece, ix, lineStep, sampleStep, put, changed, lineAt, pieceAt, Room}
-use Rattle.plane.proofs.Lines.{put-keeps}
+use Rattle.plane.specs.Line.{Pass, columns, rows, Piece, ix, lineStep, sampleStep, lineOf, placeOf, put, changed, lineAt, pieceAt, Room}
+use Rattle.plane.proofs.Lines.{put-keeps, put-outside, InStride, line-ix, place-ix, ix-on, ix-back, ix-line}
 use Rattle.standard.specs.Line.{filtered}
 use Rattle.standard.specs.declared.Bounds.{Bounds}
 use Rattle.line.specs.Rule.{side, span, change, rule}
 use Rattle.line.specs.Width.{Width, Within, reads}
 use Rattle.line.proofs.Choices.{sizes}
 use Rattle.line.proofs.Laws.{side-few, line-laws}
+use Rattle.line.proofs.Rules.{length-span}
 use Rattle.piece.specs.Samples.{index}
+use Rattle.piece.proofs.Places.{getD-span}
 use Rattle.piece.proofs.Lines.{by-samples}
 use Rattle.joined.specs.Piece.{at, lineIn, There, Standard}
 
 -- ---- several stores
 
-module _ (st : ℕ) where
-  put-outside : (vs : List ℕ) (b : ℕ) (l : List ℕ) (i : ℕ) → ((j : ℕ) → j < length vs → i ≢ b + j * st) → getD (put st b vs l) i 0 ≡ getD l i 0
-  unfolding put
-  put-outside [] b l i h = refl
-  put-outside (v ∷ vs) b l i h =
-      put-outside vs (b + st) (set l b v) i (λ j q e. h (suc j) (omega arith) (omega arith))
-      ∙ getD-set-other l b i v 0 (λ e. h 0 (omega arith) (omega arith))
-
-  put-at : 0 < st → (vs : List ℕ) (b : ℕ) (l : List ℕ) (j : ℕ) → j < length vs → b + j * st < length l → getD (put st b vs l) (b + j * st) 0 ≡ getD vs j 0
-  unfolding put
-  put-at p [] b l j h r = absurd (omega arith)
-  put-at p (v ∷ vs) b l zero h r =
-      let e : b + 0 * st ≡ b = omega arith in
-      rw e (put-outside vs (b + st) (set l b v) b (λ j q e. omega arith) ∙ getD-set-same l b v 0 (omega arith))
-  put-at p (v ∷ vs) b l (suc j) h r =
-      let e : b + suc j * st ≡ b + st + j * st = omega arith in
-      rw e (put-at p vs (b + st) (set l b v) j (omega arith) (omega (arith, length-set l b v)))
-
-length-span : (f : ℕ → ℕ) (k n : ℕ) → length (span f k n) ≡ n
-length-span f k zero = refl
-length-span f k (suc n) = ap suc (length-span f (suc k) n)
-
-getD-span : (f : ℕ → ℕ) (n k i : ℕ) → i < n → getD (span f k n) i 0 ≡ f (k + i)
-getD-span f zero k i h = absurd (omega arith)
-getD-span f (suc n) k zero h = ap f (omega arith)
-getD-span f (suc n) k (suc i) h = getD-span f n (suc k) i (omega arith) ∙ ap f (omega arith)
+put-at : (st : ℕ) → 0 < st → (vs : List ℕ) (b : ℕ) (l : List ℕ) (j : ℕ) → j < length vs → b + j * st < length l → getD (put st b vs l) (b + j * st) 0 ≡ getD vs j 0
+unfolding put
+put-at st p [] b l j h r = absurd (omega arith)
+put-at st p (v ∷ vs) b l zero h r =
+    let e : b + 0 * st ≡ b = omega arith in
+    rw e (put-outside st vs (b + st) (set l b v) b (λ j q e. omega arith) ∙ getD-set-same l b v 0 (omega arith))
+put-at st p (v ∷ vs) b l (suc j) h r =
+    let e : b + suc j * st ≡ b + st + j * st = omega arith in
+    rw e (put-at st p vs (b + st) (set l b v) j (omega arith) (omega (arith, length-set l b v)))
 
 -- ---- an index tells its line and its place
 
-abbrev InStride : Pass → ℕ → ℕ → ℕ → Type 0
-InStride columns S t k = k < S
-InStride rows S t k = t < S
-
 ix-one : (d : Pass) (S t k u j : ℕ) → InStride d S t k → InStride d S u j → ix d S t k ≡ ix d S u j → (t ≡ u) × (k ≡ j)
-ix-one columns S t k u j g h e =
-    (sym (digits-div t g) ∙ ap (λ (x : ℕ). x / S) e ∙ digits-div u h, sym (digits-mod t g) ∙ ap (λ (x : ℕ). x % S) e ∙ digits-mod u h)
-ix-one rows S t k u j g h e =
-    (sym (digits-mod k g) ∙ ap (λ (x : ℕ). x % S) e ∙ digits-mod j h, sym (digits-div k g) ∙ ap (λ (x : ℕ). x / S) e ∙ digits-div j h)
-
-ix-line : (d : Pass) (S t k j : ℕ) → ix d S t k + j * lineStep d S ≡ ix d S (t + j) k
-ix-line columns S t k j = omega arith
-ix-line rows S t k j = omega arith
-
-parts : (S x a b : ℕ) → x ≡ a + b → x * S ≡ a * S + b * S
-parts S x a b e = ap (λ m. m * S) e ∙ add-mul a b S
+ix-one d S t k u j g h e =
+    (sym (line-ix d S t k g) ∙ ap (lineOf d S) e ∙ line-ix d S u j h, sym (place-ix d S t k g) ∙ ap (placeOf d S) e ∙ place-ix d S u j h)
 
 -- a store j of those from n samples before the edge on
 ix-store : (d : Pass) (S t x n j : ℕ) → n ≤ x → ix d S t x - n * sampleStep d S + j * sampleStep d S ≡ ix d S t (x - n + j)
-ix-store columns S t x n j h = omega arith
-ix-store rows S t x n j h = omega (arith, parts S x (x - n) n (omega arith), parts S (x - n + j) (x - n) j refl)
+ix-store d S t x n j h = ap (λ m. m + j * sampleStep d S) (ix-back d S t x n h) ∙ ix-on d S t (x - n) j
 
 -- a place of the line whose q0 is at x
 ix-place : (d : Pass) (S t x k : ℕ) → 8 ≤ x + k → index (ix d S t x) (sampleStep d S) k ≡ ix d S t (x + k - 8)
-ix-place d S t x k h = go d (ltb k 8) refl
+ix-place d S t x k h = go (ltb k 8) refl
   where
-    go : (d : Pass) (b : Bool) → ltb k 8 ≡ b
-        → cond b (ix d S t x - (8 - k) * sampleStep d S) (ix d S t x + (k - 8) * sampleStep d S) ≡ ix d S t (x + k - 8)
-    go columns true e = let l = ltb-true k 8 e in omega arith
-    go columns false e = let l = ltb-false k 8 e in omega arith
-    go rows true e = let l = ltb-true k 8 e in omega (arith, parts S x (x + k - 8) (8 - k) (omega arith))
-    go rows false e = let l = ltb-false k 8 e in omega (arith, parts S (x + k - 8) x (k - 8) (omega arith))
+    go : (b : Bool) → ltb k 8 ≡ b → cond b (ix d S t x - (8 - k) * sampleStep d S) (ix d S t x + (k - 8) * sampleStep d S) ≡ ix d S t (x + k - 8)
+    go true e = let l = ltb-true k 8 e in ix-back d S t x (8 - k) (omega arith) ∙ ap (ix d S t) (omega arith)
+    go false e = let l = ltb-false k 8 e in ix-on d S t x (k - 8) ∙ ap (ix d S t) (omega arith)
 
 dec-within : (n k : ℕ) → Dec (Within n k)
 dec-within n k =

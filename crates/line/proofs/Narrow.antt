@@ -11,7 +11,8 @@ use lib.IntN.{ℤ, pos, negsuc, negℤ, subℕ, natAbs, _+ℤ_, _-ℤ_, _*ℤ_}
 use lib.Signed.{ltZ, shrZ}
 use Rattle.standard.specs.Math.{Clip3, Round2}
 use Rattle.standard.specs.Narrow.{filter4_clamp, centred, baseFilter, filter12, moved, narrowed}
-use Rattle.line.proofs.Ints.{sub-eq, is-pos, is-neg, plus-sub, thrice-sub, shr2-sub, pos-sub, neg-pos, neg-sub, add-sub, sub-sub, lt-sub}
+use Rattle.loops.proofs.Ints.{sub-eq, is-pos, is-neg, pos-sub, neg-pos, neg-sub, add-sub, lt-sub}
+use Rattle.line.proofs.Ints.{sub-sub, plus-sub, thrice-sub, shr2-sub}
 
 module _ (half v b : ℕ) where
   below : ltZ (subℕ v b) (negℤ (pos half)) ≡ ltb (v + half) b

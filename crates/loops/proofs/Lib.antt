@@ -7,3 +7,4 @@ pub mod Numbers
 pub mod Locals
 pub mod Closed
 pub mod Loops
+pub mod Ints

@@ -6,20 +6,18 @@ use mathlib.Core.List.{List}
 use Prim.Native.Nat.{ℕ, _+_, _-_, _*_, _/_, _%_, _^_, _≤_, _<_}
 use native.Mathlib.Omega.{arith}
 use native.Mathlib.Nat.{mod-lt}
-use native.Mathlib.Decide.{ℕ-discrete, decLt}
+use native.Mathlib.Decide.{decLt}
 use lib.Dec.{eqb}
-use lib.Bits.{bitOr, or-lt}
+use lib.Bits.{bitOr}
 use lib.Pow.{pow-pos, pow-mono, split}
 use lib.ListN.{length, getD, set, length-set}
-use lib.Seq.{getD-set-same, getD-set-other, set-out}
 use Rattle.loops.specs.Any.{anyBelow, Below}
 use Rattle.loops.specs.Exactly.{Reflects}
 use Rattle.loops.proofs.Reflected.{reflects-ltb, reflects-leb, reflects-eqb, reflects-as, reflects-and, reflects-or, reflects-any}
 use Rattle.bits.specs.Bit.{bit, hasBit}
 use Rattle.bits.specs.Mark.{isSet, marks, Words}
 use Rattle.bits.proofs.Bits.{bit-small, bit-low, bit-high, hasBit-0, has-of-bit, hasBit-run}
-use Rattle.bits.proofs.Marks.{isSet-ext, isSet-or, isSet-marks, length-marks}
-use Rattle.bits.proofs.Runs.{words-marks}
+use Rattle.bits.proofs.Marks.{isSet-ext, isSet-or, isSet-marks, length-marks, words-or, words-marks}
 use Rattle.mask_edges.proofs.Words.{low-half, high-half}
 
 -- ---- facts and tests
@@ -101,15 +99,6 @@ module _ (n k h at lo hi : ℕ) (f : ℕ → ℕ) (hk : k + n ≤ 2 * h) (low : 
 
 pub run-top : (n k h : ℕ) → k + n ≤ 2 * h → 2 ^ (n + k) - 2 ^ k < 2 ^ (h + h)
 run-top n k h l = omega (arith, pow-pos (h + h), pow-mono {i = n + k} {j = h + h} (omega arith), pow-pos k)
-
-words-or : (ms : List ℕ) (i w : ℕ) → w < 2 ^ 16 → Words ms → Words (set ms i (bitOr (getD ms i 0) w))
-unfolding Words
-words-or ms i w hw h j = go (ℕ-discrete j i) (decLt i (length ms))
-  where
-    go : Dec (j ≡ i) → Dec (i < length ms) → getD (set ms i (bitOr (getD ms i 0) w)) j 0 < 2 ^ 16
-    go (yes p) (yes q) = rw (p, getD-set-same ms i (bitOr (getD ms i 0) w) 0 q) (or-lt 16 (getD ms i 0) w (h i) hw)
-    go (yes p) (no q) = rw (set-out ms i (bitOr (getD ms i 0) w) (omega arith)) (h j)
-    go (no p) q = rw (getD-set-other ms i j (bitOr (getD ms i 0) w) 0 p) (h j)
 
 -- ---- the run
 

@@ -100,7 +100,7 @@ module _ (P : Plane) (k : Kept P) where
 
   -- ---- superblock rows one after another are the whole frame
 
-  row-of : (d : Pass) (p : Piece) → InRow P d (down d p / P .sb) p
+  pub row-of : (d : Pass) (p : Piece) → InRow P d (down d p / P .sb) p
   row-of d p =
       record {
         from = omega (arith, div-add-mod' (down d p) (P .sb));
