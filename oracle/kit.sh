@@ -1,5 +1,15 @@
-# The folders of the Rattle kit, found as rt finds them; for run, plant and exec.
+# The folders of the Rattle kit, found as rt finds them, and its C compiler and linker; for archive, plant and exec.
 rt=$(command -v rt) || { echo 'no rt on the PATH' >&2; exit 2; }
 home=${RATTLE_HOME:-$(dirname "$(dirname "$(readlink -f "$rt")")")}
 own=$home/on/$(uname -m)
 tools=$own/toolchain
+target=x86_64-unknown-linux-gnu
+
+compile() { # FILE.c FILE.o
+    "$tools/bin/clang" -target $target -O2 -fPIE -Wall -Wextra -ffreestanding -nostdinc -isystem "$here/freestanding" \
+        -I "$root/include" -c "$1" -o "$2"
+}
+
+join() { # PROGRAM FILE..
+    "$own/bin/rattle-link" --target $target --toolchain "$tools" -o "$@"
+}
