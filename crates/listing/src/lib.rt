@@ -24,9 +24,9 @@ const END: u8 = 10;
 const FORM: u32 = 13;
 
 // The state after the lines taken, and where the rest begins.
-pub struct Rest {
-    pub state: State,
-    pub at: usize,
+struct Rest {
+    state: State,
+    at: usize,
 }
 
 // Before the first line.
@@ -43,7 +43,7 @@ pub fn start() -> State
     }
 }
 
-pub fn take_lines(
+fn take_lines(
     s: State,
     part: &[u8],
     values: &mut [u8; 64],
