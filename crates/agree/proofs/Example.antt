@@ -20,15 +20,12 @@ frame =
     record {
       FrameWidth = 16;
       FrameHeight = 8;
-      BitDepth = 8;
-      sharpness = 0;
       sx = λ p. cond (eqb p 0) 0 1;
       sy = λ p. cond (eqb p 0) 0 1;
       MiSize = λ _ _. 0;
       Skip = λ _ _. false;
       isIntra = λ _ _. true;
       TxSizes = λ _ _ _. 0;
-      lvl = λ _ _ _ _. 20;
     }
 
 -- the last of the four blocks of an 8x8
