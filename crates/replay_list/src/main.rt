@@ -23,15 +23,24 @@ fn write_listing(script: &[u8]) {
     io::write_all(STDOUT_FILENO, &out[..m]);
 }
 
+fn read(script: &mut [u8], n: usize) {
+    let m = bytes(n, script);
+    io::read_full(STDIN_FILENO, &mut script[..m]);
+}
+
+fn listed(script: &mut [u8], n: usize) {
+    read(script, n);
+    let m = bytes(n, script);
+    write_listing(&script[..m]);
+}
+
 fn replayed() -> bool {
     let mut head = [0u8; 4];
     if io::read_full(STDIN_FILENO, &mut head) < 4 {
         return false;
     }
     let mut script = [0u8; 131072];
-    let n = bytes(wire::u32_at(&head, 0) as usize, &script);
-    io::read_full(STDIN_FILENO, &mut script[..n]);
-    write_listing(&script[..n]);
+    listed(&mut script, wire::u32_at(&head, 0) as usize);
     true
 }
 
