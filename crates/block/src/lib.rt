@@ -9,6 +9,7 @@ use units::chroma_unit;
 use units::chroma_units;
 use units::layout::ss_hor;
 use units::layout::ss_ver;
+use units::least;
 use units::luma_units;
 use units::sizes::block_high;
 use units::sizes::block_wide;
@@ -31,12 +32,6 @@ pub struct Block {
     pub skip: bool,
     pub reference: usize,
     pub mode: usize,
-}
-
-fn least(a: usize, b: usize) -> usize
-    ensures { λ r. ⌜ r ≡ min a b ⌝ }
-{
-    if a <= b { a } else { b }
 }
 
 pub fn luma_wide(b: Block) -> LumaUnit

@@ -1,10 +1,10 @@
 // One edge, and a line of them.
 use crate::Line;
-use crate::least;
 use bits::clear_bit;
 use bits::set_bit;
 use bits::test_bit;
 use edge_at::bit::edge_bit;
+use units::least;
 ghost use mathlib.Core.Path.{_≡_};
 ghost use Prim.Native.Nat.{_+_, _*_};
 ghost use lib.ListN.{length};

@@ -40,12 +40,6 @@ pub struct Line {
     pub n: usize,
 }
 
-fn least(a: usize, b: usize) -> usize
-    ensures { λ r. ⌜ r ≡ min a b ⌝ }
-{
-    if a < b { a } else { b }
-}
-
 fn correct_plane(masks: &mut [u16], t: Start, luma: bool, context: &[u8])
     requires { ⌜ Ready t luma (length (now masks)) (length (now context)) ⌝ }
     ensures { λ _. ⌜ now (masks .exit) ≡ planeDone t luma (now (context .entry)) (now (masks .entry)) ⌝ }

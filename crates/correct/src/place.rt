@@ -1,7 +1,6 @@
 // The line of units that a tile's start corrects in a plane.
 use crate::Line;
 use crate::Start;
-use crate::least;
 use units::LumaUnit;
 use units::chroma_unit;
 use units::chroma_units;
@@ -10,6 +9,7 @@ use units::frame::superblocks_along;
 use units::layout::has_chroma;
 use units::layout::ss_hor;
 use units::layout::ss_ver;
+use units::least;
 use units::luma_units;
 ghost use mathlib.Core.Path.{_≡_};
 ghost use Rattle.correct.specs.Start.{gridAt, begin, across, first, end, lineOf, inside, corrects, Shaped, Inside};

@@ -4,6 +4,7 @@ use mathlib.Core.Bool.{Bool, true, false, cond}
 use mathlib.Core.List.{List}
 use mathlib.Core.Logic.{_≢_}
 use Prim.Native.Nat.{ℕ, suc, _+_, _*_, _/_, _^_, _≤_, _<_}
+use native.Mathlib.Nat.{mul-assoc}
 use native.Mathlib.Numerals.{add-one}
 use native.Mathlib.Omega.{arith}
 use lib.Bits.{bitOr}
@@ -14,10 +15,11 @@ use Rattle.loops.proofs.Lists.{prod-le}
 use Rattle.plane.specs.Line.{Pass, columns, rows, lineStep, sampleStep}
 use Rattle.units.specs.Frame.{records}
 use Rattle.units.specs.Memory.{levelAt}
+use Rattle.units.specs.Units.{chromaUnit}
 use Rattle.edges.specs.Edges.{passNo, half}
 use Rattle.gap.specs.Lines.{recordRow}
 use Rattle.gap.specs.Track.{stepOf, startOf}
-use Rattle.gap.proofs.Frames.{side-le, start-in}
+use Rattle.gap.proofs.Frames.{side-le, rows-le, start-in}
 use Rattle.gap.proofs.Masks.{along}
 use Rattle.gap.proofs.Shapes.{row-lines}
 use Rattle.filter.specs.declared.Component.{Component}
@@ -27,6 +29,10 @@ use Rattle.filter.specs.Lines.{leftOf, topOf, acrossOf, unitIn, maskAt, 
 
 pub left-le : (ssx g : ℕ) → ssx ≤ 1 → g ≤ 128 → g * (32 / 2 ^ ssx) ≤ 4096
 left-le ssx g h l = prod-le g (32 / 2 ^ ssx) 128 32 l (side-le ssx h)
+
+-- a sample's place, by units and by samples
+pub four-of : (s x y a b : ℕ) → a ≡ 4 * x → b ≡ 4 * y → b * s + a ≡ 4 * (y * s + x)
+four-of s x y a b p q = rw (p, q) (omega (arith, mul-assoc 4 y s))
 
 -- ---- halves and classes
 
@@ -102,6 +108,20 @@ module _ (c : Component) (d : Pass) (k g a : ℕ) where
         go : (d : Pass) → a < acrossOf c d → unitIn c d k a < 32
         go columns l = omega (arith, side-le (c .ssx) (f .proper .ssx-le))
         go rows l = omega (arith, side-le (c .ssy) (f .proper .ssy-le), row-lines (c .ssy) 4096 (c .sb4 .0) k (f .proper .ssy-le) (f .size) (f .row) .room)
+
+    -- its place is a number of units
+    pub near : (leftOf c d g a < 65536) × (topOf c d k a < 65536)
+    near = go d unit-lt
+      where
+        left : g * (32 / 2 ^ c .ssx) ≤ 4096
+        left = left-le (c .ssx) g (f .proper .ssx-le) (omega (arith, f .group, f .wide))
+
+        top : k * chromaUnit (c .ssy) (c .sb4 .0) < 4096
+        top = rows-le (c .ssy) k (c .sb4 .0) 4096 _ (f .proper .ssy-le) (f .row) refl
+
+        go : (d : Pass) → unitIn c d k a < 32 → (leftOf c d g a < 65536) × (topOf c d k a < 65536)
+        go columns l = (omega (arith, left), omega (arith, top))
+        go rows l = (omega (arith, left), omega (arith, top))
 
     mask-room : maskAt c d k g a + stepOf (eqb (c .plane) 0) ≤ len
     unfolding maskAt

@@ -2,6 +2,7 @@
 use crate::Component;
 use units::ChromaUnit;
 use units::LumaUnit;
+use units::Sample;
 ghost use mathlib.Core.Path.{_≡_};
 ghost use mathlib.Core.Bool.{cond};
 ghost use Prim.Native.Nat.{suc, _+_, _*_, _/_, _^_, _<_, _≤_};
@@ -45,12 +46,30 @@ fn row_top(ssy: usize, sb4: LumaUnit, k: usize) -> usize
     k * sb.0
 }
 
-// Of a unit, which has 4 samples a side.
-fn sample_at(stride: usize, x: usize, y: usize) -> usize
-    requires { ⌜ 4 * (y * stride + x) < 2 ^ 64 ⌝ }
-    ensures { λ r. ⌜ r ≡ 4 * (y * stride + x) ⌝ }
+fn place(stride: usize, x: Sample, y: Sample) -> usize
+    requires { ⌜ y .0 * stride + x .0 < 2 ^ 64 ⌝ }
+    ensures { λ r. ⌜ r ≡ y .0 * stride + x .0 ⌝ }
 {
-    4 * (y * stride + x)
+    y.0 * stride + x.0
+}
+
+// Of the first sample of a unit.
+fn sample_at(c: Component, x: usize, y: usize) -> usize
+    requires { ⌜ (4 * (y * c .stride + x) < 2 ^ 64) × (x < 65536) × (y < 65536) ⌝ }
+    ensures { λ r. ⌜ r ≡ 4 * (y * c .stride + x) ⌝ }
+{
+    if c.plane == 0 {
+        return place(
+            c.stride,
+            units::luma_sample(LumaUnit(x)),
+            units::luma_sample(LumaUnit(y)),
+        );
+    }
+    place(
+        c.stride,
+        units::chroma_sample(ChromaUnit(x)),
+        units::chroma_sample(ChromaUnit(y)),
+    )
 }
 
 fn level_of(c: Component, pass: usize, x: usize, y: usize) -> usize
@@ -152,7 +171,7 @@ fn column_line(masks: &[u16], c: Component, k: usize, g: usize, a: usize) -> Lin
     let h = half_units(c.ssy);
     let stride = c.stride;
     Line {
-        q: sample_at(stride, x, y),
+        q: sample_at(c, x, y),
         sa: stride,
         st: 1,
         m0: class_at(masks, luma, m, first, n, h, 0),
@@ -176,7 +195,7 @@ fn row_line(masks: &[u16], c: Component, k: usize, g: usize, a: usize) -> Line
     let h = half_units(c.ssx);
     let stride = c.stride;
     Line {
-        q: sample_at(stride, x, y),
+        q: sample_at(c, x, y),
         sa: 1,
         st: stride,
         m0: class_at(masks, luma, m, 0, 2, h, 0),

@@ -1,21 +1,10 @@
 // The lines of units of a row, as bits of the two halves of a mask.
 use units::LumaUnit;
+use units::least;
+use units::over;
 ghost use mathlib.Core.Path.{_≡_};
-ghost use Prim.Native.Nat.{_-_, _*_, _^_, _≤_, _<_, min};
+ghost use Prim.Native.Nat.{_-_, _*_, _^_, _≤_, _<_};
 ghost use Rattle.gap.specs.Lines.{lineWord, inRecord, recordRow, firstLine, rowUnits};
-
-pub fn least(a: usize, b: usize) -> usize
-    ensures { λ r. ⌜ r ≡ min a b ⌝ }
-{
-    if a < b { a } else { b }
-}
-
-// a - b, and 0 where b is more.
-pub fn over(a: usize, b: usize) -> usize
-    ensures { λ r. ⌜ r ≡ a - b ⌝ }
-{
-    if a < b { 0 } else { a - b }
-}
 
 fn half_word(from: usize, to: usize) -> u16
     requires { ⌜ (from ≤ to) × (to ≤ 16) ⌝ }

@@ -1,8 +1,10 @@
 // Numbers 8 and 9: level bytes and samples, or-ed together line by line and compared once.
 use units::LumaUnit;
 use units::Sample;
+use units::least;
+use units::over;
 ghost use mathlib.Core.Path.{_≡_};
-ghost use Prim.Native.Nat.{_+_, _-_, _*_, _/_, _%_, _^_, _<_, _≤_, min};
+ghost use Prim.Native.Nat.{_+_, _-_, _*_, _/_, _%_, _^_, _<_, _≤_};
 ghost use lib.Dec.{ltb};
 ghost use lib.ListN.{length, getD};
 ghost use Rattle.bits.specs.Word.{orBelow};
@@ -12,19 +14,6 @@ ghost use Rattle.scans.specs.Fits.{LevelsFit, LevelsRow, SamplesFit};
 ghost use Rattle.scans.specs.Or.{fourAt, orUnits, orLevels, fourLines, orQuad, orSamples};
 ghost use Rattle.scans.specs.Promises.{Promises};
 ghost use Rattle.scans.specs.Scan.{lumaLevelsHigh, chromaLevelsHigh, samplesHigh};
-
-fn least(a: usize, b: usize) -> usize
-    ensures { λ r. ⌜ r ≡ min a b ⌝ }
-{
-    if a < b { a } else { b }
-}
-
-// a - b, and 0 where b is more.
-fn over(a: usize, b: usize) -> usize
-    ensures { λ r. ⌜ r ≡ a - b ⌝ }
-{
-    if a < b { 0 } else { a - b }
-}
 
 fn join4(a: u8, b: u8, c: u8, d: u8) -> u32
     ensures { λ r. ⌜ r ≡ d * 16777216 + c * 65536 + b * 256 + a ⌝ }

@@ -7,7 +7,7 @@ pub mod numbers;
 pub mod sizes;
 
 ghost use mathlib.Core.Path.{_≡_};
-ghost use Prim.Native.Nat.{_*_, _<_, _≤_};
+ghost use Prim.Native.Nat.{_-_, _*_, _<_, _≤_, min};
 ghost use Rattle.units.specs.Units.{unitsOf, chromaUnit, chromaUnits};
 
 // A place or a count in units of 4 by 4 luma samples.
@@ -53,4 +53,17 @@ pub fn chroma_sample(u: ChromaUnit) -> Sample
     ensures { λ r. ⌜ r .0 ≡ 4 * u .0 ⌝ }
 {
     Sample(4 * u.0)
+}
+
+pub fn least(a: usize, b: usize) -> usize
+    ensures { λ r. ⌜ r ≡ min a b ⌝ }
+{
+    if a < b { a } else { b }
+}
+
+// a - b, and 0 where b is more.
+pub fn over(a: usize, b: usize) -> usize
+    ensures { λ r. ⌜ r ≡ a - b ⌝ }
+{
+    if a < b { 0 } else { a - b }
 }

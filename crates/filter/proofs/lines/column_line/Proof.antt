@@ -4,7 +4,7 @@ use mathlib.Core.Path.{refl, ap}
 use Prim.Native.Nat.{ℕ, _+_}
 use Rattle.plane.specs.Line.{columns}
 use Rattle.gap.proofs.Frames.{side-le}
-use Rattle.filter.proofs.Leaves.{mask-is, class-asks, line-make}
+use Rattle.filter.proofs.Leaves.{near, mask-is, class-asks, line-make}
 use borrow.Author.Needs.{needs}
 use Rattle.filter.proofs.lines.column_line.Statement.{statement}
 use Rattle.filter.proofs.lines.column_line.Tie as tie
@@ -28,7 +28,7 @@ half-units-requires : tie.Need-half-units-requires
 half-units-requires c κs = search needs
 
 sample-at-requires : tie.Need-sample-at-requires
-sample-at-requires c κs = rw (c .before .before .before .before .row-top .ensures, c .before .before .before .before .before .group-left .ensures) (c .before .before .before .before .before .before .before .before .pre .sample)
+sample-at-requires c κs = let t = c .before .before .before .before .before .before .before .before in rw (c .before .before .before .before .row-top .ensures, c .before .before .before .before .before .group-left .ensures) (c .before .before .before .before .before .before .before .before .pre .sample, near (t .args .c) columns (t .args .k) (t .args .g) (t .args .a) _ (t .pre) .0, near (t .args .c) columns (t .args .k) (t .args .g) (t .args .a) _ (t .pre) .1)
 
 class-at-requires : tie.Need-class-at-requires
 class-at-requires c κs = let t = c .before .before .before .before .before .before .before .before .before in class-asks (t .args .c) columns (t .args .k) (t .args .g) (t .args .a) _ (t .pre) _ _ _ 0 (mask-is (t .args .c) columns (t .args .k) (t .args .g) (t .args .a) _ _ refl (c .before .before .before .before .mask-at .ensures)) refl (c .before .half-units .ensures) (omega arith)
