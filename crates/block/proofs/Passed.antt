@@ -1,5 +1,5 @@
 -- What a block that passes a test has, from the comparisons that the test is made of.
-use mathlib.Core.Bool.{Bool, true, false, not, _&&_, _||_, false≢true}
+use mathlib.Core.Bool.{true, false, not, _&&_, _||_}
 use mathlib.Core.List.{List}
 use mathlib.Core.Path.{_≡_, refl, sym}
 use Prim.Native.Nat.{ℕ, _%_, _<_, _≤_}
@@ -10,6 +10,7 @@ use borrow.Author.Tests.{not-false, ltb-false, eqb-true, lt-ltb, le-ltb}
 use Rattle.loops.specs.Any.{anyBelow}
 use Rattle.loops.proofs.Anys.{any-true}
 use Rattle.loops.proofs.Tables.{each-at}
+use Rattle.loops.proofs.Bools.{or-off}
 use Rattle.units.specs.Units.{chromaUnit, chromaUnits}
 use Rattle.units.specs.Layout.{layoutOk, hasChroma}
 use Rattle.units.specs.Frame.{frameOk}
@@ -17,10 +18,6 @@ use Rattle.units.proofs.Tests.{reflects-frame}
 use Rattle.block.specs.declared.Block.{Block}
 use Rattle.block.specs.Block.{w4, h4, wide, high, Sides}
 use Rattle.block.specs.Tests.{shapeBad, codeBad, placeBad, contextBad}
-
-pub or-off : (a b : Bool) → (a || b) ≡ false → (a ≡ false) × (b ≡ false)
-or-off false b e = (refl, e)
-or-off true b e = absurd (false≢true (sym e))
 
 module _ (b : Block) where
   pub shaped : shapeBad b ≡ false → ((1 ≤ b .width .0) × (b .width .0 ≤ 16384)) × ((1 ≤ b .height .0) × (b .height .0 ≤ 16384))

@@ -8,6 +8,7 @@ use borrow.Author.Tests.{not-true, not-false, ltb-true}
 use Rattle.loops.specs.Exactly.{Reflects}
 use Rattle.loops.proofs.Reflected.{reflects-eqb, reflects-or}
 use Rattle.loops.proofs.Tables.{each-at}
+use Rattle.loops.proofs.Bools.{or-off}
 use Rattle.units.specs.Layout.{layoutOk, ssHor, ssVer}
 use Rattle.units.specs.Frame.{frameOk, superblockOk, stored}
 use Rattle.units.specs.Memory.{levelsOk, planeOk, masksOk}
@@ -28,10 +29,6 @@ off {r} e h = sym e ∙ not-true r h
 
 pub on : {r b : Bool} → r ≡ b → not r ≡ false → b ≡ true
 on {r} e h = sym e ∙ not-false r h
-
-pub or-off : (a b : Bool) → (a || b) ≡ false → (a ≡ false) × (b ≡ false)
-or-off false b e = (refl, e)
-or-off true b e = absurd (false≢true (sym e))
 
 pub unmet : {P : Type 0} (b : Bool) → Reflects b P → ¬ P → b ≡ false
 unmet true r n = absurd (n (r .yes refl))

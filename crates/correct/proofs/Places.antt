@@ -12,7 +12,7 @@ use Rattle.units.specs.Layout.{layoutOk, hasChroma, ssHor, ssVer}
 use Rattle.units.specs.Frame.{frameOk, superblockOk, superblocks}
 use Rattle.units.proofs.Places.{ss-hor-le, ss-ver-le, chroma-unit-in, superblock-in}
 use Rattle.units.proofs.Tests.{reflects-frame, reflects-superblock}
-use Rattle.block.proofs.Passed.{or-off}
+use Rattle.loops.proofs.Bools.{or-off}
 use Rattle.edges.specs.Edges.{Proper, ssOf}
 use Rattle.edge_at.specs.Bit.{passOf}
 use Rattle.correct.specs.declared.Start.{Start}

@@ -16,7 +16,7 @@ use Rattle.units.specs.Memory.{masksOk}
 use Rattle.units.proofs.Places.{chroma-unit-in}
 use Rattle.units.proofs.Tests.{reflects-masks}
 use Rattle.block.specs.Tests.{contextBad}
-use Rattle.block.proofs.Passed.{or-off}
+use Rattle.loops.proofs.Bools.{or-off}
 use Rattle.edges.specs.Edges.{ssOf, other, unitsOf}
 use Rattle.edge_at.specs.Bit.{passOf}
 use Rattle.correct.specs.declared.Start.{Start}

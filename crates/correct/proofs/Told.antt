@@ -20,7 +20,7 @@ use Rattle.units.specs.Frame.{frameRecords}
 use Rattle.units.specs.Layout.{hasChroma}
 use Rattle.units.proofs.Tests.{reflects-chroma}
 use Rattle.block.specs.Tests.{contextBad}
-use Rattle.block.proofs.Passed.{or-off}
+use Rattle.loops.proofs.Bools.{or-off}
 use Rattle.edges.specs.Edges.{classes, other, unitsOf, highest, edge}
 use Rattle.edges.proofs.Bits.{edge-bit-in, edge-bit-inj, kinds-apart, highest-one}
 use Rattle.edge_at.specs.Bit.{passOf}

@@ -10,7 +10,6 @@ use place::line;
 use units::LumaUnit;
 use units::Sample;
 ghost use mathlib.Core.Path.{_≡_};
-ghost use Prim.Native.Nat.{min};
 ghost use lib.ListN.{length};
 ghost use Rattle.correct.specs.Correct.{planeDone};
 ghost use Rattle.correct.specs.Answer.{columnOf, rowOf, CorrectAnswer, Ready};

@@ -1,6 +1,6 @@
 -- A digit more in a numeral, from the front as it is read and at the end as it is written; and a number is read back from its text, by recursion on its tenths.
 -- ---- reading
-use mathlib.Core.Bool.{Bool, true, false, _&&_, and-assoc, and-false, false≢true}
+use mathlib.Core.Bool.{Bool, true, false, _&&_, and-assoc, and-false}
 use mathlib.Core.List.{List, [], _∷_, _++_, append-assoc}
 use mathlib.Core.Logic.{by-cases}
 use mathlib.Core.Path.{_≡_, refl, sym, ap, subst, _∙_}
@@ -13,6 +13,7 @@ use borrow.Author.Tests.{lt-ltb, le-ltb, le-leb, lt-leb, leb-true}
 use lib.Dec.{leb}
 use lib.ListN.{length, getD, set, take, drop, length-append, length-take}
 use lib.Seq.{drop-cons, drop-length, set-at, set-split}
+use Rattle.loops.proofs.Bools.{both-true}
 use Rattle.decimal.specs.Decimal.{isDigit, digits, value, numeral, noNumber, numberOf, decimalIn, decimal, pasted}
 use Rattle.decimal.specs.Promises.{Promises}
 
@@ -157,15 +158,11 @@ back : (n : ℕ) → n < 1000000000 → numberOf (decimal n) ≡ n
 unfolding numberOf decimal
 back n h = simp (whole n h) (value-in n n (omega arith))
 
-both : (a b : Bool) → (a && b) ≡ true → (a ≡ true) × (b ≡ true)
-both true b e = (refl, e)
-both false b e = absurd (false≢true e)
-
 value-small : (n i : ℕ) (s : List ℕ) → n < 10 ^ i → digits s ≡ true → value n s < 10 ^ (i + length s)
 value-small n i [] h e = rw add-zero h
 value-small n i (b ∷ s) h e =
-    let d = both (isDigit b) (digits s) e in
-    let f = both (leb 48 b) (leb b 57) (d .0) in
+    let d = both-true (isDigit b) (digits s) e in
+    let f = both-true (leb 48 b) (leb b 57) (d .0) in
     subst (λ (k : ℕ). value n (b ∷ s) < 10 ^ k) (omega arith)
     (value-small (n * 10 + (b - 48)) (i + 1) s (fits-next i n b h (leb-true b 57 (f .1))) (d .1))
 
@@ -175,8 +172,8 @@ read s e = simp e
 
 small : (s : List ℕ) → numeral s ≡ true → numberOf s < 1000000000
 small s e =
-    let d = both (leb 1 (length s) && leb (length s) 9) (digits s) e in
-    let f = both (leb 1 (length s)) (leb (length s) 9) (d .0) in
+    let d = both-true (leb 1 (length s) && leb (length s) 9) (digits s) e in
+    let f = both-true (leb 1 (length s)) (leb (length s) 9) (d .0) in
     let v : value 0 s < 10 ^ length s = subst (λ (k : ℕ). value 0 s < 10 ^ k) (omega arith) (value-small 0 0 s (omega arith) (d .1)) in
     let m : 10 ^ length s ≤ 1000000000 = pow-le-pow-right {n = 10} (omega arith) {i = length s} {j = 9} (leb-true (length s) 9 (f .1)) in
     rw (read s e) (omega arith)

@@ -17,7 +17,7 @@ use Rattle.plane.specs.Plane.{right, down}
 use Rattle.units.specs.Frame.{records, frameRecords}
 use Rattle.units.specs.Memory.{halfUnits, lumaBit, chromaBit}
 use Rattle.units.specs.Units.{chromaUnits}
-use Rattle.units.proofs.Places.{luma-bit-inj, chroma-bit-inj, luma-bit-in, chroma-bit-in}
+use Rattle.units.proofs.Places.{by-ss, side-le, luma-bit-inj, chroma-bit-inj, luma-bit-in, chroma-bit-in}
 use Rattle.edges.specs.Edges.{Grid, Proper, other, passNo, ssOf, unitsOf, side, recordAt, classes, bitIn, edgeBit, highest}
 
 -- ---- a bit in its record, b being the kind
@@ -39,14 +39,11 @@ pass-lt columns = omega arith
 pass-lt rows = omega arith
 
 -- the units of a record of a plane
-side-le : (ss : ℕ) → ss ≤ 1 → 32 / 2 ^ ss ≤ 2 * halfUnits ss
-side-le ss = λ h. each-at 2 (λ s. 32 / 2 ^ s ≤ 2 * halfUnits s) (omega arith, (omega arith, tt)) ss (omega arith)
+two-halves : (ss : ℕ) → ss ≤ 1 → 32 / 2 ^ ss ≤ 2 * halfUnits ss
+two-halves = by-ss (λ ss. 32 / 2 ^ ss ≤ 2 * halfUnits ss) (omega arith) (omega arith)
 
 side-in : (ss u : ℕ) → ss ≤ 1 → u % (32 / 2 ^ ss) < 32 / 2 ^ ss
-side-in ss u h = each-at 2 (λ s. u % (32 / 2 ^ s) < 32 / 2 ^ s) (omega arith, (omega arith, tt)) ss (omega arith)
-
-side-small : (ss : ℕ) → ss ≤ 1 → 32 / 2 ^ ss ≤ 32
-side-small ss h = each-at 2 (λ s. 32 / 2 ^ s ≤ 32) (omega arith, (omega arith, tt)) ss (omega arith)
+side-in ss u = by-ss (λ s. u % (32 / 2 ^ s) < 32 / 2 ^ s) (omega arith) (omega arith) ss
 
 records-in : (ss n u : ℕ) → ss ≤ 1 → u < chromaUnits ss n → u / (32 / 2 ^ ss) < records n
 records-in ss n u h = each-at 2 (λ s. u < chromaUnits s n → u / (32 / 2 ^ s) < records n) (λ l. omega arith, (λ l. omega arith, tt)) ss (omega arith)
@@ -68,10 +65,10 @@ module _ (G : Grid) (P : Proper G) where
 
   -- the units of a piece in its record
   unit-in : (d : Pass) (u : ℕ) → u % side G d < 32
-  unit-in d u = omega (arith, side-in (ssOf G d) u (ss-le d), side-small (ssOf G d) (ss-le d))
+  unit-in d u = omega (arith, side-in (ssOf G d) u (ss-le d), side-le (ssOf G d) (ss-le d))
 
   place-in : (d : Pass) (u : ℕ) → u % side G (other d) < 2 * halfUnits (ssOf G (other d))
-  place-in d u = omega (arith, side-in (ssOf G (other d)) u (ss-le (other d)), side-le (ssOf G (other d)) (ss-le (other d)))
+  place-in d u = omega (arith, side-in (ssOf G (other d)) u (ss-le (other d)), two-halves (ssOf G (other d)) (ss-le (other d)))
 
   -- ---- bits of the frame
 

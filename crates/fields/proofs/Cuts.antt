@@ -1,6 +1,6 @@
 -- Where fields begin and end: a byte more as a loop reads it, the first field taken off the front, and what joined fields are, by recursion on the count of fields.
 -- ---- as the loops go
-use mathlib.Core.Bool.{Bool, true, false, not, _&&_, cond, false≢true}
+use mathlib.Core.Bool.{Bool, true, false, not, cond}
 use mathlib.Core.List.{List, [], _∷_, _++_}
 use mathlib.Core.Logic.{by-cases}
 use mathlib.Core.Path.{_≡_, refl, sym, ap, ap₂, subst, _∙_}
@@ -14,6 +14,7 @@ use lib.Dec.{eqb}
 use lib.ListN.{length, getD, take, drop, length-append, length-drop, drop-of-length-le}
 use lib.Seq.{drop-cons, drop-drop, take-length, take-append-seam, drop-append-add, split-at}
 use Rattle.loops.specs.Run.{All}
+use Rattle.loops.proofs.Bools.{both-true}
 use Rattle.fields.specs.Fields.{cut, rest, place, field, fieldsOf, joined, without}
 
 cut-here : (d : ℕ) (s : List ℕ) (i : ℕ) → i < length s → getD s i 0 ≡ d → cut d (drop i s) ≡ 0
@@ -95,22 +96,18 @@ field-first d s = rw (← place-none d s) refl
 
 -- ---- joined fields
 
-both : (a b : Bool) → (a && b) ≡ true → (a ≡ true) × (b ≡ true)
-both true b e = (refl, e)
-both false b e = absurd (false≢true e)
-
 cut-whole : (d : ℕ) (f : List ℕ) → without d f ≡ true → cut d f ≡ length f
 unfolding cut
 cut-whole d [] h = refl
 cut-whole d (b ∷ f) h =
-    let e = both (not (eqb b d)) (without d f) h in
+    let e = both-true (not (eqb b d)) (without d f) h in
     simp (not-true (eqb b d) (e .0), cut-whole d f (e .1))
 
 cut-joined : (d : ℕ) (f t : List ℕ) → without d f ≡ true → cut d (f ++ (d ∷ t)) ≡ length f
 unfolding cut
 cut-joined d [] t h = simp (eq-eqb d d refl)
 cut-joined d (b ∷ f) t h =
-    let e = both (not (eqb b d)) (without d f) h in
+    let e = both-true (not (eqb b d)) (without d f) h in
     simp (not-true (eqb b d) (e .0), cut-joined d f t (e .1))
 
 rest-joined : (d : ℕ) (f t : List ℕ) → without d f ≡ true → rest d (f ++ (d ∷ t)) ≡ t

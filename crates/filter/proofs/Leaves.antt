@@ -19,7 +19,8 @@ use Rattle.units.specs.Units.{chromaUnit}
 use Rattle.edges.specs.Edges.{passNo, half}
 use Rattle.gap.specs.Lines.{recordRow}
 use Rattle.gap.specs.Track.{stepOf, startOf}
-use Rattle.gap.proofs.Frames.{side-le, rows-le, start-in}
+use Rattle.units.proofs.Places.{side-le}
+use Rattle.gap.proofs.Frames.{rows-le, start-in}
 use Rattle.gap.proofs.Masks.{along}
 use Rattle.gap.proofs.Shapes.{row-lines}
 use Rattle.filter.specs.declared.Component.{Component}

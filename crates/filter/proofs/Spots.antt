@@ -11,9 +11,9 @@ use Rattle.units.specs.Units.{chromaUnit}
 use Rattle.edges.specs.Edges.{unitsOf, side, half, recordAt}
 use Rattle.gap.specs.Lines.{recordRow, firstLine}
 use Rattle.gap.specs.Promises.{Across, Along}
-use Rattle.gap.proofs.Frames.{side-le}
+use Rattle.units.proofs.Places.{by-ss, side-le}
 use Rattle.gap.proofs.Masks.{along}
-use Rattle.gap.proofs.Shapes.{by-ss, row-lines, row-halves}
+use Rattle.gap.proofs.Shapes.{row-lines, row-halves}
 use Rattle.filter.specs.declared.Component.{Component}
 use Rattle.filter.specs.Filter.{Tables, gridOf}
 use Rattle.filter.specs.Ready.{Stored}

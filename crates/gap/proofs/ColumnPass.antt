@@ -11,6 +11,7 @@ use lib.ListN.{getD}
 use borrow.Author.Tests.{lt-ltb, ltb-true}
 use Rattle.loops.specs.Any.{anyBelow}
 use Rattle.loops.proofs.Anys.{any-same}
+use Rattle.loops.proofs.Bools.{both-true}
 use Rattle.bits.specs.Bit.{hasBit}
 use Rattle.bits.specs.Mark.{isSet}
 use Rattle.plane.specs.Line.{columns, rows}
@@ -25,7 +26,7 @@ use Rattle.gap.specs.Track.{stepOf, startOf, columnWords, track, Answers
 use Rattle.gap.proofs.Answers.{answer-gap, answer-out}
 use Rattle.gap.proofs.Found.{lines-gap, halves-out}
 use Rattle.gap.proofs.Masks.{along, word-in, class-bit, fits-in, fits-out}
-use Rattle.gap.proofs.Runs.{iff, both-true, two-in, two-out, line-in, line-out, has-line, line-lt, any-part}
+use Rattle.gap.proofs.Runs.{iff, two-in, two-out, line-in, line-out, has-line, line-lt, any-part}
 use Rattle.gap.proofs.Shapes.{RowLines, RowHalves, units-stored}
 
 module _ (G : Grid) (p : Proper G) (ms : List ℕ) (small : (j : ℕ) → getD ms j 0 < 65536) (sb4 k : ℕ)

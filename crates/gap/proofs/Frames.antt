@@ -8,13 +8,14 @@ use native.Mathlib.Omega.{arith}
 use Rattle.loops.proofs.Lists.{prod-le}
 use Rattle.units.specs.Frame.{records}
 use Rattle.units.specs.Units.{chromaUnit}
+use Rattle.units.proofs.Places.{by-ss, side-le}
 use Rattle.gap.specs.declared.track.Track.{Track}
 use Rattle.edges.specs.Edges.{chromaGrid, Proper}
 use Rattle.gap.specs.Fits.{MasksFit}
 use Rattle.gap.specs.Lines.{recordRow}
 use Rattle.gap.specs.Track.{stepOf, startOf, classWord, startT, partT, track, columnWords, rowWords}
 use Rattle.gap.proofs.Cells.{fewer-units}
-use Rattle.gap.proofs.Shapes.{by-ss, halves, RowLines, row-lines, RowHalves, row-halves}
+use Rattle.gap.proofs.Shapes.{halves, RowLines, row-lines, RowHalves, row-halves}
 use Rattle.gap.proofs.Walks.{part-track}
 
 -- ---- planes
@@ -24,9 +25,6 @@ proper-chroma ss-hor ss-ver w4 h4 p q =
     record { ssx-le = p; ssy-le = q; luma-x = λ e. absurd (false≢true e); luma-y = λ e. absurd (false≢true e) }
 
 -- ---- bounds
-
-pub side-le : (ss : ℕ) → ss ≤ 1 → 32 / 2 ^ ss ≤ 32
-side-le = by-ss (λ ss. 32 / 2 ^ ss ≤ 32) (omega arith) (omega arith)
 
 pub unit-le : (ss n : ℕ) → ss ≤ 1 → chromaUnit ss n ≤ n
 unit-le ss n h = by-ss (λ t. chromaUnit t n ≤ n) (omega arith) (omega arith) ss h

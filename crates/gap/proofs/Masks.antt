@@ -17,7 +17,7 @@ use Rattle.units.specs.Memory.{lumaWord, chromaWord, lumaBit, chromaBit, halfUn
 use Rattle.edges.specs.Edges.{Grid, other, passNo, ssOf, unitsOf, side, half, recordAt, wordIn, bitIn, edgeBit, Proper}
 use Rattle.gap.specs.Numbers.{halfBit, fits}
 use Rattle.gap.specs.Track.{wordAt, stepOf, startOf, classWord}
-use Rattle.gap.proofs.Runs.{both-true}
+use Rattle.loops.proofs.Bools.{both-true}
 use Rattle.gap.proofs.Shapes.{Halves, halves}
 
 module _ (G : Grid) (p : Proper G) where

@@ -13,6 +13,7 @@ use lib.ListN.{getD}
 use borrow.Author.Tests.{lt-ltb, le-ltb, ltb-true}
 use Rattle.loops.specs.Any.{anyBelow}
 use Rattle.loops.proofs.Anys.{any-none, any-nil, any-same, any-or, any-split}
+use Rattle.loops.proofs.Bools.{both-true}
 use Rattle.bits.specs.Bit.{hasBit}
 use Rattle.bits.specs.Mark.{isSet}
 use Rattle.bits.proofs.Bits.{hasBit-ones}
@@ -28,7 +29,7 @@ use Rattle.gap.specs.Track.{stepOf, startOf, rowWords, track, Answers}
 use Rattle.gap.proofs.Answers.{answer-gap, answer-out}
 use Rattle.gap.proofs.Found.{lines-gap, halves-out}
 use Rattle.gap.proofs.Masks.{along, word-in, class-bit, fits-in, fits-out}
-use Rattle.gap.proofs.Runs.{iff, both-true, line-in, line-out, has-line, line-lt}
+use Rattle.gap.proofs.Runs.{iff, line-in, line-out, has-line, line-lt}
 use Rattle.gap.proofs.Shapes.{RowLines, units-stored, record-starts}
 
 -- ---- one record

@@ -9,16 +9,13 @@ use native.Mathlib.Omega.{arith}
 use lib.Dec.{eqb}
 use borrow.Author.Tests.{eq-eqb, eqb-true, le-leb, lt-leb}
 use Rattle.loops.proofs.Anys.{any-each, any-false}
+use Rattle.loops.proofs.Bools.{or-off}
 use Rattle.plane.specs.Gap.{Mark, an-edge, the-start, the-end, Allowed, GapRule, Close}
 use Rattle.plane.proofs.Gaps.{gap-close, close-gap}
 use Rattle.gap.specs.Line.{atLeast, marked, prev, clashes, clash, lineBroken}
 use Rattle.gap.specs.Promises.{Nowhere}
 
 -- ---- on Bools
-
-or-off : (a b : Bool) → (a || b) ≡ false → (a ≡ false) × (b ≡ false)
-or-off false b e = (refl, e)
-or-off true b e = absurd (false≢true (sym e))
 
 and-off : (a b : Bool) → (a && b) ≡ false → a ≡ true → b ≡ false
 and-off true b e t = e

@@ -1,6 +1,6 @@
 -- The word of a run of lines: bit q of it is `lineBit`, half by half, and a test over its bits is a test over lines.
 use mathlib.Core.Path.{_≡_, refl, sym, ap, ap₂, _∙_}
-use mathlib.Core.Bool.{Bool, true, false, _&&_, false≢true}
+use mathlib.Core.Bool.{Bool, true, false, _&&_}
 use mathlib.Core.Logic.{by-cases}
 use Prim.Native.Nat.{ℕ, _+_, _-_, _*_, _/_, _%_, _^_, _≤_, _<_, min}
 use native.Mathlib.Nat.{zero-mul, one-mul}
@@ -11,6 +11,7 @@ use lib.Pow.{pow-pos, pow-mono}
 use borrow.Author.Tests.{lt-ltb, le-leb, ltb-true, leb-true}
 use Rattle.loops.specs.Any.{anyBelow}
 use Rattle.loops.proofs.Anys.{any-some, any-true, any-split}
+use Rattle.loops.proofs.Bools.{both-true}
 use Rattle.bits.specs.Bit.{hasBit}
 use Rattle.bits.proofs.Bits.{has-of-bit, bit-low, bit-high, hasBit-run}
 use Rattle.gap.specs.Lines.{bitOf, lineBit, lineWord}
@@ -22,10 +23,6 @@ pub iff : (a b : Bool) → (a ≡ true → b ≡ true) → (b ≡ true → a ≡
 iff true b f g = sym (f refl)
 iff false true f g = g refl
 iff false false f g = refl
-
-pub both-true : (a b : Bool) → (a && b) ≡ true → (a ≡ true) × (b ≡ true)
-both-true true b e = (refl, e)
-both-true false b e = absurd (false≢true e)
 
 pub two-in : (a j b : ℕ) → a ≤ j → j < b → (leb a j && ltb j b) ≡ true
 two-in a j b x y = ap₂ _&&_ (le-leb a j x) (lt-ltb j b y)

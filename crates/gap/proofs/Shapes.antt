@@ -3,14 +3,11 @@ use mathlib.Core.Path.{_≡_, sym, subst}
 use mathlib.Core.Logic.{_⊎_, ⊎-elim}
 use Prim.Native.Nat.{ℕ, _+_, _*_, _/_, _%_, _^_, _≤_, _<_}
 use native.Mathlib.Omega.{arith}
-use Rattle.loops.proofs.Tables.{each-at}
 use Rattle.units.specs.Frame.{records}
 use Rattle.units.specs.Memory.{halfUnits}
 use Rattle.units.specs.Units.{chromaUnit, chromaUnits}
+use Rattle.units.proofs.Places.{by-ss}
 use Rattle.gap.specs.Lines.{recordRow, firstLine}
-
-pub by-ss : (P : ℕ → Type 0) → P 0 → P 1 → (ss : ℕ) → ss ≤ 1 → P ss
-by-ss P p q ss h = each-at 2 P (q, (p, tt)) ss (omega arith)
 
 by-sb : (P : ℕ → Type 0) → P 16 → P 32 → (sb4 : ℕ) → (sb4 ≡ 16) ⊎ (sb4 ≡ 32) → P sb4
 by-sb P p q sb4 = ⊎-elim (λ e. subst P (sym e) p) (λ e. subst P (sym e) q)

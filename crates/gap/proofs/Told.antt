@@ -22,7 +22,7 @@ use Rattle.gap.specs.Numbers.{sbUnits, storedUnits, part, gap, halfBit, 
 use Rattle.gap.specs.Promises.{Keeps, Looks, Gap, Across, Along, Outside, Promises}
 use Rattle.gap.proofs.Rule.{line-keeps, line-breaks}
 use Rattle.gap.proofs.Masks.{edge-bit}
-use Rattle.gap.proofs.Runs.{both-true}
+use Rattle.loops.proofs.Bools.{both-true}
 use Rattle.gap.proofs.Shapes.{units-stored}
 
 -- ---- edges lie in the frame

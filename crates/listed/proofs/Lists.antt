@@ -10,24 +10,19 @@ use native.Mathlib.Decide.{ℕ-discrete}
 use native.Mathlib.Omega.{arith}
 use borrow.Author.Tests.{eqb-false, ne-eqb}
 use lib.Dec.{eqb}
+use Rattle.loops.specs.Run.{cat}
 use Rattle.loops.proofs.Closed.{all-at, all-of}
+use Rattle.loops.proofs.Loops.{mem-cat}
 use Rattle.plane.specs.Line.{Pass, columns, rows}
 use Rattle.plane.specs.Plane.{unit}
 use Rattle.edges.specs.Edges.{unitsOf, passNo, edge}
-use Rattle.listed.specs.Listed.{Held, Edge, cat, planes, gridIn, edgeIn, found, edgesAt, edgesIn, edgesOf}
+use Rattle.listed.specs.Listed.{Held, Edge, planes, gridIn, edgeIn, found, edgesAt, edgesIn, edgesOf}
 use Rattle.listed.specs.Promises.{IsEdge, Before, Ordered, Promises}
 
 cat-some : {A : Type 0} {p : A} (f : ℕ → List A) (n : ℕ) → List·Memᴰ p (cat f n) → (j : ℕ) × (j < n) × List·Memᴰ p (f j)
 cat-some f zero m = absurd (List·Memᴰ·not-nil m)
 cat-some f (suc n) m =
     ⊎-elim (λ a. let r = cat-some f n a in (r .0, omega (arith, r .1), r .2)) (λ a. (n, omega arith, a)) (List·Memᴰ·append-cases (cat f n) m)
-
-mem-cat : {A : Type 0} {p : A} (f : ℕ → List A) (j n : ℕ) → j < n → List·Memᴰ p (f j) → List·Memᴰ p (cat f n)
-mem-cat f j zero h m = absurd (omega arith)
-mem-cat {p = p} f j (suc n) h m =
-    by-cases (ℕ-discrete j n)
-    (λ e. Memᴰ·append-right (cat f n) (subst (λ x. List·Memᴰ p (f x)) e m))
-    (λ e. Memᴰ·append-left (f n) (mem-cat f j n (omega arith) m))
 
 ordered-append : (l m : List Edge) → Ordered l → Ordered m → ((e f : Edge) → List·Memᴰ e l → List·Memᴰ f m → Before e f) → Ordered (l ++ m)
 ordered-append [] m a b h = b

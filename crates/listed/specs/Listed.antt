@@ -1,7 +1,6 @@
 -- The list of the edges of a frame: by plane, pass, then y, then x, in units of the plane.
 --   Held               what is listed from: layout, the frame in luma units, the lent memory
 --   Edge               one edge
---   cat f n            f 0, f 1, .. f (n - 1), one after another
 --   planes s           how many planes there are
 --   gridIn s p         the units of plane p
 --   kind p d           which byte of a unit's levels
@@ -15,6 +14,7 @@ use mathlib.Core.Option.{Option, some, none}
 use Prim.Native.Nat.{ℕ, zero, suc, _+_}
 use lib.Dec.{eqb}
 use lib.ListN.{length, getD}
+use Rattle.loops.specs.Run.{cat}
 use Rattle.plane.specs.Line.{Pass, columns, rows}
 use Rattle.plane.specs.Plane.{unit}
 use Rattle.units.specs.Layout.{hasChroma, ssHor, ssVer}
@@ -37,10 +37,6 @@ pub record Edge : Type 0 where
   pub y : ℕ
   pub class : ℕ
   pub level : ℕ
-
-abbrev pub cat : {A : Type 0} → (ℕ → List A) → ℕ → List A
-cat f zero = []
-cat f (suc n) = cat f n ++ f n
 
 abbrev pub planes : Held → ℕ
 planes s = cond (hasChroma (s .layout)) 3 1

@@ -1,13 +1,14 @@
 -- A line is taken off the front of a script, and lines are read as they are written, by recursion on the bytes of a line.
-use mathlib.Core.Bool.{Bool, true, false, not, _&&_, cond, false≢true}
+use mathlib.Core.Bool.{Bool, true, false, not, cond}
 use mathlib.Core.List.{List, [], _∷_, _++_, append-assoc, append-nil}
-use mathlib.Core.Path.{_≡_, refl, sym, ap, _∙_}
+use mathlib.Core.Path.{_≡_, refl, ap, _∙_}
 use Prim.Native.Nat.{ℕ, suc, _+_, _≤_, _<_}
 use native.Mathlib.Numerals.{add-one}
 use native.Mathlib.Omega.{arith}
 use borrow.Author.Tests.{eq-eqb, not-true}
 use lib.Dec.{eqb}
 use lib.ListN.{length, take, drop}
+use Rattle.loops.proofs.Bools.{both-true}
 use Rattle.fields.specs.Fields.{cut, without}
 use Rattle.text.specs.Text.{end}
 use Rattle.listing.specs.Listing.{push, linesOf}
@@ -53,21 +54,17 @@ lines-most (b ∷ s) = go (eqb b end) (linesOf s) (lines-most s)
 
 -- ---- as they are written
 
-both : (a b : Bool) → (a && b) ≡ true → (a ≡ true) × (b ≡ true)
-both true b e = (refl, e)
-both false b e = absurd (false≢true e)
-
 line-ended : (l t : List ℕ) → without end l ≡ true → linesOf (l ++ (end ∷ t)) ≡ l ∷ linesOf t
 line-ended [] t h = refl
 line-ended (b ∷ l) t h =
-    let e = both (not (eqb b end)) (without end l) h in
+    let e = both-true (not (eqb b end)) (without end l) h in
     simp (not-true (eqb b end) (e .0), line-ended l t (e .1))
 
 line-last : (l : List ℕ) → without end l ≡ true → 0 < length l → linesOf l ≡ l ∷ []
 line-last [] h n = absurd (omega arith)
-line-last (b ∷ []) h n = let e = both (not (eqb b end)) true h in simp (not-true (eqb b end) (e .0))
+line-last (b ∷ []) h n = let e = both-true (not (eqb b end)) true h in simp (not-true (eqb b end) (e .0))
 line-last (b ∷ c ∷ l) h n =
-    let e = both (not (eqb b end)) (without end (c ∷ l)) h in
+    let e = both-true (not (eqb b end)) (without end (c ∷ l)) h in
     simp (not-true (eqb b end) (e .0), line-last (c ∷ l) (e .1) (omega arith))
 
 pub lines : (ls : List (List ℕ)) → Plain ls → linesOf (ended ls) ≡ ls

@@ -7,10 +7,10 @@ use mathlib.Core.Option.{Option, some, none}
 use mathlib.Core.List.{List, [], _∷_, List·Memᴰ, List·Memᴰ·head}
 use lib.ListN.{length, getD}
 use lib.Arith.{digits-div}
-use Rattle.loops.specs.Run.{run, All, Distinct, Once, pieces, upTo}
+use Rattle.loops.specs.Run.{run, All, Distinct, Once, pieces, upTo, cat}
 use Rattle.loops.proofs.Runs.{run-parts, run-past, rows-in-turn}
 use Rattle.loops.proofs.Closed.{run-once, run-sees, run-keeps, all-at, all-of}
-use Rattle.loops.proofs.Loops.{cat, loop-run, mem-cat, all-cat, distinct-cat}
+use Rattle.loops.proofs.Loops.{loop-run, mem-cat, all-cat, distinct-cat}
 use Rattle.plane.specs.Line.{Pass, columns, rows, Piece, lineOf, placeOf}
 use Rattle.plane.specs.Plane.{luma, chroma, Plane, class, IsPiece, ruleOf, act, colsOf, rowsOf, unit, rasterOf, right, down, Kept, Anywhere, InRow}
 use Rattle.plane.proofs.Gaps.{before-end}

@@ -15,7 +15,7 @@ use Rattle.bits.specs.Bit.{hasBit}
 use Rattle.bits.specs.Mark.{isSet}
 use Rattle.bits.proofs.Bits.{hasBit-nil}
 use Rattle.mask_edges.specs.Recording.{Block, Sweep, columns, rows, isEdge, classAt, edges, Recorded}
-use Rattle.block.proofs.Passed.{or-off}
+use Rattle.loops.proofs.Bools.{or-off}
 use Rattle.record.specs.Record.{inRecord}
 use Rattle.record.specs.Recorded.{edgeOf}
 

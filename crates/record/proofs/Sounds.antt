@@ -18,7 +18,8 @@ use Rattle.units.proofs.Tests.{reflects-levels, reflects-masks}
 use Rattle.block.specs.declared.Block.{Block}
 use Rattle.block.specs.Block.{w4, h4, bw4, bh4, cbw4, cbh4, seesLuma, seesChroma, Lent}
 use Rattle.block.specs.Tests.{contextBad, number}
-use Rattle.block.proofs.Passed.{or-off, coded, placed, sides}
+use Rattle.loops.proofs.Bools.{or-off}
+use Rattle.block.proofs.Passed.{coded, placed, sides}
 use Rattle.block.proofs.Free.{Passed, free}
 use Rattle.record.specs.Record.{on, Fitting, Sound}
 

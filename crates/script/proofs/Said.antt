@@ -1,5 +1,5 @@
 -- Reading gives back what is printed of a line, and what it reads as a line is printed so.
-use mathlib.Core.Bool.{Bool, true, false, _&&_, _||_, cond, false≢true}
+use mathlib.Core.Bool.{Bool, true, false, _&&_, _||_, cond}
 use mathlib.Core.List.{List, [], _∷_}
 use mathlib.Core.Logic.{_⊎_, inl, inr, ⊎-elim, by-cases}
 use mathlib.Core.Path.{_≡_, refl, sym, ap, subst, _∙_}
@@ -13,6 +13,7 @@ use lib.Seq.{getD-drop, getD-take}
 use Rattle.loops.specs.Table.{Each}
 use Rattle.loops.specs.Run.{All}
 use Rattle.loops.proofs.Anys.{any-false, any-each}
+use Rattle.loops.proofs.Bools.{both-true, or-off}
 use Rattle.loops.proofs.Tables.{each-at}
 use Rattle.standard.specs.Sizes.{Num_4x4_Blocks_Wide, Num_4x4_Blocks_High, Tx_Wide, Tx_High}
 use Rattle.decimal.specs.Decimal.{decimal, isDigit, digits, numeral, numberOf, noNumber}
@@ -35,19 +36,15 @@ other e = omega arith
 
 -- ---- numerals
 
-both : (a b : Bool) → (a && b) ≡ true → (a ≡ true) × (b ≡ true)
-both true b e = (refl, e)
-both false b e = absurd (false≢true e)
-
 plain-digits : (f : List ℕ) → digits f ≡ true → without space f ≡ true
 plain-digits [] h = refl
 plain-digits (b ∷ f) h =
-    let d = both (isDigit b) (digits f) h in
-    let l = leb-true 48 b (both (leb 48 b) (leb b 57) (d .0) .0) in
+    let d = both-true (isDigit b) (digits f) h in
+    let l = leb-true 48 b (both-true (leb 48 b) (leb b 57) (d .0) .0) in
     simp (ne-eqb b 32 (λ e. omega arith), plain-digits f (d .1))
 
 numeral-plain : {f : List ℕ} {n : ℕ} → Numeral f n → without space f ≡ true
-numeral-plain {f} r = plain-digits f (both (leb 1 (length f) && leb (length f) 9) (digits f) (r .digits) .1)
+numeral-plain {f} r = plain-digits f (both-true (leb 1 (length f) && leb (length f) 9) (digits f) (r .digits) .1)
 
 numeral-is : {f : List ℕ} {n : ℕ} → Numeral f n → numberOf f ≡ n
 numeral-is {f} r = numerals.promises .read f (r .digits) ∙ r .is
@@ -204,10 +201,6 @@ said-frame s b h e = go (noNumbers s 6) refl
               (word-is s 0 frameWord b (search arith) (omega arith) e),
         ))
 
-neither : (a b : Bool) → (a || b) ≡ false → (a ≡ false) × (b ≡ false)
-neither true b e = absurd (false≢true (sym e))
-neither false b e = (refl, e)
-
 is-word : (s : List ℕ) (k : ℕ) → eqb (packed (at s k)) (packed []) ≡ false → Word (at s k)
 is-word s k e = record { some = long (at s k) (eqb-false (packed (at s k)) (packed []) e); one = plain space s k }
   where
@@ -239,8 +232,8 @@ said-block s b h e = go (noNumbers s 2) (noWords s) (isWord s 6 intraWord) refl 
         inl (sym (block-other s (packed (at s 6)) f g refl (eqb-false (packed (at s 6)) (packed intraWord) j)))
     go false false true f g j =
         let m = numeral-at s 2 f in
-        let v = neither (isWord s 3 [] || isWord s 4 []) (isWord s 5 []) g in
-        let u = neither (isWord s 3 []) (isWord s 4 []) (v .0) in
+        let v = or-off (isWord s 3 [] || isWord s 4 []) (isWord s 5 []) g in
+        let u = or-off (isWord s 3 []) (isWord s 4 []) (v .0) in
         subst (λ (l : Line). Said s l)
         (block-line s (packed (at s 6)) (packed (at s 3)) (packed (at s 4)) (packed (at s 5)) (numberAt s 1) (numberAt s 2) (blockIn (packed (at s 3)))
         (txIn (packed (at s 4))) (chromaOf (at s 5)) (uvtxOf (at s 5)) f g refl (eqb-true (packed (at s 6)) (packed intraWord) j)

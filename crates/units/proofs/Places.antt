@@ -18,8 +18,12 @@ flag-le true m n p q = p
 flag-le false m n p q = q
 
 -- what holds at ss 0 and at ss 1
-by-ss : (P : ℕ → Type 0) → P 0 → P 1 → (ss : ℕ) → ss ≤ 1 → P ss
+pub by-ss : (P : ℕ → Type 0) → P 0 → P 1 → (ss : ℕ) → ss ≤ 1 → P ss
 by-ss P p q ss h = each-at 2 P (q, (p, tt)) ss (omega arith)
+
+-- the units of a record of a plane
+pub side-le : (ss : ℕ) → ss ≤ 1 → 32 / 2 ^ ss ≤ 32
+side-le = by-ss (λ ss. 32 / 2 ^ ss ≤ 32) (omega arith) (omega arith)
 
 -- a chroma unit of the frame, counted as luma units are, lies in it too
 pub chroma-units-le : (n ss : ℕ) → ss ≤ 1 → chromaUnits ss n ≤ n

@@ -5,7 +5,8 @@ use native.Mathlib.Omega.{arith}
 use borrow.Author.Needs.{needs}
 use Rattle.gap.specs.Track.{track, columnWords}
 use Rattle.gap.proofs.Cells.{fewer-units}
-use Rattle.gap.proofs.Frames.{side-le, columns-none, columns-more}
+use Rattle.units.proofs.Places.{side-le}
+use Rattle.gap.proofs.Frames.{columns-none, columns-more}
 use Rattle.gap.proofs.columns_walk.Statement.{statement}
 use Rattle.gap.proofs.columns_walk.Tie as tie
 

@@ -5,7 +5,7 @@ use native.Mathlib.Omega.{arith}
 use borrow.Author.Needs.{needs}
 use Rattle.gap.specs.Lines.{lineWord, inRecord}
 use Rattle.gap.proofs.Shapes.{halves}
-use Rattle.gap.proofs.Frames.{side-le}
+use Rattle.units.proofs.Places.{side-le}
 use Rattle.gap.proofs.record_lines.Statement.{statement}
 use Rattle.gap.proofs.record_lines.Tie as tie
 

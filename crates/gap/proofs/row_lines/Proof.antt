@@ -5,7 +5,7 @@ use native.Mathlib.Omega.{arith}
 use borrow.Author.Needs.{needs}
 use Rattle.gap.specs.Lines.{lineWord}
 use Rattle.gap.proofs.Shapes.{halves, row-lines}
-use Rattle.gap.proofs.Frames.{side-le}
+use Rattle.units.proofs.Places.{side-le}
 use Rattle.gap.proofs.row_lines.Statement.{statement}
 use Rattle.gap.proofs.row_lines.Tie as tie
 

@@ -5,7 +5,8 @@ use native.Mathlib.Omega.{arith}
 use borrow.Author.Needs.{needs}
 use Rattle.units.specs.Frame.{records}
 use Rattle.gap.specs.Track.{track, rowWords}
-use Rattle.gap.proofs.Frames.{side-le, records-small, record-place, record-in, lines-of, rows-fit, rows-walked}
+use Rattle.units.proofs.Places.{side-le}
+use Rattle.gap.proofs.Frames.{records-small, record-place, record-in, lines-of, rows-fit, rows-walked}
 use Rattle.gap.proofs.rows_track.Statement.{statement}
 use Rattle.gap.proofs.rows_track.Tie as tie
 

@@ -3,7 +3,7 @@ use native.Mathlib.Omega.{arith}
 use mathlib.Core.Path.{refl, ap}
 use Prim.Native.Nat.{ℕ, _+_}
 use Rattle.plane.specs.Line.{columns}
-use Rattle.gap.proofs.Frames.{side-le}
+use Rattle.units.proofs.Places.{side-le}
 use Rattle.filter.proofs.Leaves.{near, mask-is, class-asks, line-make}
 use borrow.Author.Needs.{needs}
 use Rattle.filter.proofs.lines.column_line.Statement.{statement}

@@ -4,7 +4,7 @@ use mathlib.Core.Path.{sym, ap, _∙_}
 use mathlib.Core.Bool.{Bool}
 use Prim.Native.Nat.{ℕ, _/_, _^_}
 use Rattle.gap.specs.Lines.{inRecord}
-use Rattle.gap.proofs.Frames.{side-le}
+use Rattle.units.proofs.Places.{side-le}
 use Rattle.filter.specs.Filter.{passOf}
 use Rattle.filter.specs.Lines.{unitsAcross}
 use borrow.Author.Needs.{needs}
