@@ -14,7 +14,7 @@ use units::luma_units;
 use units::sizes::block_high;
 use units::sizes::block_wide;
 ghost use mathlib.Core.Path.{_≡_};
-ghost use Prim.Native.Nat.{_≤_, min};
+ghost use Prim.Native.Nat.{_≤_};
 ghost use Rattle.block.specs.Block.{w4, h4, bw4, bh4, chromaSide, cbw4, cbh4, seesLuma, seesChroma, Sides};
 
 // The frame, the block's place, codes and chroma pair; of an intra block skip, reference and mode are 0.
