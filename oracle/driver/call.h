@@ -13,9 +13,9 @@ typedef unsigned __int128 u128;
 #define WORDS                                                                                            \
     sharpness, layout, delta_enabled, multi, segmentation, width, height, x, y, block, tx, uvtx, chroma, \
         skip, reference, mode, superblock, row, start, depth, level_u, level_v
-#define SLICES luma, u, v, levels, masks, above, left, above_uv, left_uv
+#define SLICES luma, u, v, levels, masks, above, left, above_uv, left_uv, script, out
 #define TABLES values, tx_masks, e, i, sharp, base, ref_delta, mode_delta, lf_delta, seg_delta
-enum { SIZES = 3, VALUES = 25, LENGTHS = 9, BUFFERS = 19 };
+enum { SIZES = 3, VALUES = 25, LENGTHS = 11, BUFFERS = 21 };
 
 // `length` elements of `size` bytes, as they were and as the call has them.
 struct lent {
@@ -39,7 +39,7 @@ struct asked {
     };
 };
 
-enum kind { LIMITS, LEVELS, RECORD, CORRECT, FILTER };
+enum kind { LIMITS, LEVELS, RECORD, CORRECT, FILTER, LIST };
 
 struct call {
     const char *name;
@@ -48,7 +48,7 @@ struct call {
     // The numbers that it may answer, in order; what is lent to it to read and to write, as sets.
     u8 numbers[10];
     u32 reads, writes;
-    u32 (*ask)(const struct asked *);
+    size_t (*ask)(const struct asked *);
 };
 
 #define LENT(name) \

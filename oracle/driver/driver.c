@@ -1,10 +1,13 @@
 // driver COUNT SEED: makes COUNT calls of the archive, with numbers and buffers from the seed. A call is
 // wrong if it answers another number than number.h, changes a byte beside what is lent or of what it only
-// reads, or changes anything and does not answer 0. It ends in a table of the answers.
+// reads, or changes anything and does not answer 0; the listing, if its length or what it leaves in `out` is
+// not that of list.h. It ends in a table of the answers.
 
 #include "call.h"
 #include "number.h"
+#include "list.h"
 #include "make.h"
+#include "script.h"
 
 int printf(const char *, ...);
 int dprintf(int, const char *, ...);
@@ -23,11 +26,11 @@ unsigned alarm(unsigned);
 #define SLICE(name) a->name.at, a->name.length
 #define FRAME a->width, a->height, a->layout
 
-static u32 ask_limits(const struct asked *a) {
+static size_t ask_limits(const struct asked *a) {
     return deblock_limits(a->e.at, a->i.at, a->sharp.at, a->sharpness);
 }
 
-static u32 ask_levels(const struct asked *a) {
+static size_t ask_levels(const struct asked *a) {
     return deblock_levels(a->values.at, a->layout, a->base.at, a->delta_enabled, a->ref_delta.at,
                           a->mode_delta.at, a->multi, a->lf_delta.at, a->segmentation, a->seg_delta.at);
 }
@@ -36,18 +39,18 @@ static u32 ask_levels(const struct asked *a) {
     SLICE(levels), a->stride, SLICE(masks), a->values.at, FRAME, a->x, a->y, a->block, a->tx
 #define BLOCK_LAST SLICE(above), SLICE(left), a->chroma, a->uvtx, SLICE(above_uv), SLICE(left_uv)
 
-static u32 ask_intra(const struct asked *a) { return deblock_record_intra(BLOCK_FIRST, BLOCK_LAST); }
+static size_t ask_intra(const struct asked *a) { return deblock_record_intra(BLOCK_FIRST, BLOCK_LAST); }
 
-static u32 ask_inter(const struct asked *a) {
+static size_t ask_inter(const struct asked *a) {
     return deblock_record_inter(BLOCK_FIRST, a->tx_masks.at, a->skip, a->reference, a->mode, BLOCK_LAST);
 }
 
-static u32 ask_correct_column(const struct asked *a) {
+static size_t ask_correct_column(const struct asked *a) {
     return deblock_correct_column(SLICE(masks), FRAME, a->superblock, a->row, a->start, SLICE(left),
                                   SLICE(left_uv));
 }
 
-static u32 ask_correct_row(const struct asked *a) {
+static size_t ask_correct_row(const struct asked *a) {
     return deblock_correct_row(SLICE(masks), FRAME, a->superblock, a->row, SLICE(above), SLICE(above_uv));
 }
 
@@ -56,12 +59,14 @@ static u32 ask_correct_row(const struct asked *a) {
         SLICE(masks), a->e.at, a->i.at
 #define PASS_LAST FRAME, a->superblock, a->level_u, a->level_v, a->row
 
-static u32 ask_columns_8(const struct asked *a) { return deblock_columns_8(PASS_FIRST, PASS_LAST); }
-static u32 ask_rows_8(const struct asked *a) { return deblock_rows_8(PASS_FIRST, PASS_LAST); }
-static u32 ask_columns_16(const struct asked *a) {
+static size_t ask_columns_8(const struct asked *a) { return deblock_columns_8(PASS_FIRST, PASS_LAST); }
+static size_t ask_rows_8(const struct asked *a) { return deblock_rows_8(PASS_FIRST, PASS_LAST); }
+static size_t ask_columns_16(const struct asked *a) {
     return deblock_columns_16(PASS_FIRST, a->depth, PASS_LAST);
 }
-static u32 ask_rows_16(const struct asked *a) { return deblock_rows_16(PASS_FIRST, a->depth, PASS_LAST); }
+static size_t ask_rows_16(const struct asked *a) { return deblock_rows_16(PASS_FIRST, a->depth, PASS_LAST); }
+
+static size_t ask_list(const struct asked *a) { return deblock_list(SLICE(script), SLICE(out)); }
 
 #define HEADER               \
     LEVELS, 0, 0, 0, {2, 4}, \
@@ -86,6 +91,7 @@ static const struct call CALLS[] = {
     {"rows_8", PASS(1, 0, 2), ask_rows_8},
     {"columns_16", PASS(0, 1, 2, 3), ask_columns_16},
     {"rows_16", PASS(1, 1, 2, 3), ask_rows_16},
+    {"list", LIST, 0, 0, 0, {1, 2, 3, 4, 5, FORM}, LENT(script), LENT(out), ask_list},
 };
 enum { CALL_COUNT = sizeof CALLS / sizeof *CALLS };
 
@@ -140,7 +146,7 @@ static int is_beside(const struct lent *l, u8 *room) {
 // ---- the run
 
 static struct asked asked;
-static u64 made, answers[CALL_COUNT][13], wrong[CALL_COUNT];
+static u64 made, answers[CALL_COUNT][FORM + 1], wrong[CALL_COUNT];
 
 #define TEXT(...) #__VA_ARGS__
 #define NAMES(...) TEXT(__VA_ARGS__)
@@ -152,7 +158,7 @@ static const char *print_named(const char *names, size_t value) {
     return names + length + 2;
 }
 
-static void describe(const char *what, u32 answer, u32 expected) {
+static void describe(const char *what, size_t answer, size_t expected) {
     printf("call %lu, %s: ", made, asked.call->name);
     printf(what, answer, expected);
     const char *names = NAMES(STRIDES, WORDS);
@@ -161,15 +167,16 @@ static void describe(const char *what, u32 answer, u32 expected) {
     names = NAMES(SLICES, TABLES);
     for (int n = 0; n < BUFFERS; n++) names = print_named(names, asked.lent[n].length);
     printf("\n");
+    if (asked.call->kind == LIST) printf("%.*s\n", (int)asked.script.length, bytes(&asked.script));
 }
 
 static void stopped(int signal) {
-    describe("ended by signal %u;", signal, 0);
+    describe("ended by signal %lu;", signal, 0);
     exit(1);
 }
 
 static void set_sizes(struct asked *a) {
-    static const u8 SIZE[BUFFERS] = {1, 1, 1, 1, 2, 1, 1, 1, 1, 1, 2, 1, 1, 8, 1, 1, 1, 1, 1};
+    static const u8 SIZE[BUFFERS] = {1, 1, 1, 1, 2, 1, 1, 1, 1, 1, 1, 1, 2, 1, 1, 8, 1, 1, 1, 1, 1};
     static const u8 LENGTH[BUFFERS] = {[LENGTHS] = 64, 2, 64, 64, 2, 4, 8, 2, 4, 32};
     for (int n = 0; n < BUFFERS; n++) {
         a->lent[n].size = n < 3 && a->call->is_wide ? 2 : SIZE[n];
@@ -178,26 +185,34 @@ static void set_sizes(struct asked *a) {
     if (a->call->kind == LEVELS) a->values.length = 512;
 }
 
+// What the call must answer; a listing for which there is room is put where the call must leave it.
+static size_t expect(struct asked *a) {
+    if (a->call->kind != LIST) return number(a);
+    if (listing.length <= a->out.length) memcpy(a->out.before, listing.at, listing.length);
+    return listing.length;
+}
+
 static void make_call(struct asked *a, u64 seed) {
     int c = made % CALL_COUNT;
     a->call = &CALLS[c];
     state = seed;
     state = next() ^ made * 0xd1b54a32d192ed03;
     set_sizes(a);
-    take(a);
+    a->call->kind == LIST ? take_script(a) : take(a);
     u32 lent = a->call->reads | a->call->writes;
     for (int n = 0; n < BUFFERS; n++)
         if (lent >> n & 1) lend(&a->lent[n], rooms[n]);
-    u32 expected = number(a), answer = a->call->ask(a);
-    const char *fault = answer == expected ? 0 : "answered %u, not %u;";
+    size_t expected = expect(a), answer = a->call->ask(a);
+    const char *fault = answer == expected ? 0 : "answered %lu, not %lu;";
     for (int n = 0; n < BUFFERS; n++) {
         if (!(lent >> n & 1)) continue;
         struct lent *l = &a->lent[n];
-        if (is_beside(l, rooms[n])) fault = "answered %u and changed bytes beside what is lent;";
+        if (is_beside(l, rooms[n])) fault = "answered %lu and changed bytes beside what is lent;";
         if ((answer || a->call->reads >> n & 1) && memcmp(l->at, l->before, l->length * l->size))
-            fault = "answered %u and changed what may not change;";
+            fault = "answered %lu and left other bytes than it must;";
     }
-    if (answer < 13) answers[c][answer]++;
+    size_t said = a->call->kind == LIST ? listing.number : answer;
+    if (said <= FORM) answers[c][said]++;
     if (fault && wrong[c]++ == 0) describe(fault, answer, expected);
 }
 
@@ -211,11 +226,11 @@ static int may_answer(const struct call *c, u32 number) {
 static int print_table(void) {
     int is_full = 1;
     printf("%-15s%9s", "call", "calls");
-    for (u32 n = 0; n < 13; n++) printf("%8u", n);
-    printf("%8s\n", "wrong");
+    for (u32 n = 0; n < FORM; n++) printf("%8u", n);
+    printf("%8s%8s\n", "form", "wrong");
     for (int c = 0; c < CALL_COUNT; c++) {
         printf("%-15s%9lu", CALLS[c].name, (made + CALL_COUNT - 1 - c) / CALL_COUNT);
-        for (u32 n = 0; n < 13; n++) {
+        for (u32 n = 0; n <= FORM; n++) {
             if (may_answer(&CALLS[c], n)) printf("%8lu", answers[c][n]), is_full &= answers[c][n] > 0;
             else printf("%8s", "-");
         }

@@ -26,8 +26,11 @@ static size_t any_size(void) {
 static size_t any_flag(void) { return PICK(0, 0, 1, 1, 256, 1u << 31, any_word()); }
 
 static void fill(const struct lent *l, u64 kept, u64 added) {
-    u64 *to = l->before;
-    for (size_t n = 0; n < l->length * l->size; n += 8) *to++ = (next() & kept) + added;
+    u64 *to = l->before, z = next();
+    for (size_t n = 0; n < l->length * l->size; n += 8) {
+        z = z * 0xd1342543de82ef95 + 1;
+        *to++ = ((z ^ z >> 32) & kept) + added;
+    }
 }
 
 // ---- accepted
