@@ -1,5 +1,6 @@
 pub mod Words
 pub mod Halves
+pub mod Contexts
 pub mod Turns
 pub mod Walks
 pub mod Asks

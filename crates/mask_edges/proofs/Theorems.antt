@@ -6,9 +6,8 @@ use mathlib.Core.List.{List}
 use Prim.Native.Nat.{ℕ, zero, suc, _+_, _-_, _*_, _/_, _≤_, _<_}
 use native.Mathlib.Omega.{arith}
 use native.Mathlib.Nat.{lt-of-lt-of-le}
-use native.Mathlib.Decide.{ℕ-discrete, decLt}
-use lib.ListN.{length, getD, length-set}
-use lib.Seq.{getD-set-same, getD-set-other}
+use native.Mathlib.Decide.{decLt}
+use lib.ListN.{length, getD}
 use borrow.Author.Tests.{lt-ltb, le-ltb}
 use Rattle.standard.specs.Sizes.{Tx_Wide, Tx_High}
 use Rattle.bits.specs.Mark.{Adds}
@@ -23,27 +22,10 @@ use Rattle.mask_edges.specs.Promises.{Promises}
 use Rattle.mask_edges.proofs.Words.{bit-in}
 use Rattle.mask_edges.proofs.Asks.{halves, chroma-low}
 use Rattle.mask_edges.proofs.Tells.{Reads, luma-low, tables-columns, tables-rows}
+use Rattle.mask_edges.proofs.Contexts.{stores-in, stores-out}
 use Rattle.mask_edges.proofs.Edges.{adds-grid, adds-cells}
 
 -- ---- contexts
-
-module _ (f : ℕ → ℕ) (c : List ℕ) where
-  length-stores : (n : ℕ) → length (stores n f c) ≡ length c
-  unfolding stores
-  length-stores zero = refl
-  length-stores (suc n) = length-set (stores n f c) n (f n) ∙ length-stores n
-
-  stores-in : (n v : ℕ) → n ≤ length c → v < n → getD (stores n f c) v 0 ≡ f v
-  unfolding stores
-  stores-in zero v l h = absurd (omega arith)
-  stores-in (suc n) v l h =
-      by-cases (ℕ-discrete v n) (λ e. rw e (getD-set-same (stores n f c) n (f n) 0 (rw (length-stores n) (omega arith))))
-      (λ g. getD-set-other (stores n f c) n v (f n) 0 g ∙ stores-in n v (omega arith) (omega arith))
-
-  stores-out : (n v : ℕ) → n ≤ v → getD (stores n f c) v 0 ≡ getD c v 0
-  unfolding stores
-  stores-out zero v h = refl
-  stores-out (suc n) v h = getD-set-other (stores n f c) n v (f n) 0 (λ e. omega arith) ∙ stores-out n v (omega arith)
 
 -- a context that takes the block's last classes
 taken : (S : Sweep) (f : ℕ → ℕ) (c : List ℕ) → S .along ≤ length c → ((v : ℕ) → v < S .along → f v ≡ S .class (S .side (S .across - 1) v))

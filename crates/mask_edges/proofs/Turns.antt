@@ -2,16 +2,17 @@
 use mathlib.Core.Path.{_≡_, refl, sym, ap, _∙_}
 use mathlib.Core.Bool.{Bool, true, false}
 use mathlib.Core.List.{List}
-use Prim.Native.Nat.{ℕ, _+_, _-_, _*_, _/_, _<_, min}
-use native.Mathlib.Nat.{div-le-self}
+use Prim.Native.Nat.{ℕ, _+_, _-_, _*_, _/_, _≤_, _<_, min}
+use native.Mathlib.Nat.{div-le-self, div-eq-of-lt}
 use native.Mathlib.Omega.{arith}
-use lib.ListN.{set}
+use lib.ListN.{getD, set}
 use Rattle.loops.proofs.Runs.{upTo-again}
 use Rattle.loops.proofs.Lists.{step-in, steps-in}
 use Rattle.bits.specs.Mark.{mark, marks}
 use Rattle.bits.proofs.Marks.{marks-none, marks-more}
 use Rattle.mask_edges.specs.declared.edge.Pass.{Pass}
-use Rattle.mask_edges.specs.Folds.{blockEdge, stepEdges, stores, gridPass, Held}
+use Rattle.mask_edges.specs.Folds.{bitIn, blockEdge, stepEdges, stores, gridPass, Edged, Held}
+use Rattle.mask_edges.proofs.Contexts.{stores-out}
 
 -- a record that has been written to is as long as before
 pub held : (p : Pass) {n m : ℕ} → n ≡ m → Held p m → Held p n
@@ -43,6 +44,23 @@ stores-none f c = refl
 pub stores-step : (f : ℕ → ℕ) (v k : ℕ) (c₀ c : List ℕ) → c ≡ stores v f c₀ → k ≡ f v → set c v k ≡ stores (v + 1) f c₀
 unfolding stores
 stores-step f v k c₀ c e g = upTo-again (λ v c. set c v (f v)) v c₀ e (ap (set c v) g)
+
+module _ (p : Pass) (class : ℕ) (c ms : List ℕ) where
+  pub edged-none : Edged p class c ms 0 c ms
+  edged-none = record { context = stores-none (λ _. class) c; edge = block-none (bitIn p) (λ _. class) (λ i. getD c i 0) ms }
+
+  pub edged-step : (v k e : ℕ) (ctx masks masks′ : List ℕ) → Edged p class c ms v ctx masks → k ≡ min class (getD ctx v 0) → e ≡ bitIn p 0 k v
+      → masks′ ≡ mark masks e → Edged p class c ms (v + 1) (set ctx v class) masks′
+  edged-step v k e ctx masks masks′ E ek ee em =
+      let g : getD ctx v 0 ≡ getD c v 0 = ap (λ (l : List ℕ). getD l v 0) (E .context) ∙ stores-out (λ _. class) c v v (omega arith) in
+      record {
+        context = stores-step (λ _. class) v class c ctx (E .context) refl;
+        edge = block-step (bitIn p) (λ _. class) (λ i. getD c i 0) v k ms masks masks′ (E .edge) (ek ∙ ap (λ (n : ℕ). min class n) g) (em ∙ ap (mark masks) ee);
+      }
+
+-- where no step is inside the width
+pub no-step : (w s : ℕ) → 0 < w → w ≤ s → 0 ≡ (w - 1) / s
+no-step w s l h = sym (div-eq-of-lt (omega arith))
 
 -- a step inside the width
 pub stepping : (w s i : ℕ) → i < (w - 1) / s → ((i + 1) * s < w) × (i < w)

@@ -3,7 +3,7 @@ use mathlib.Core.Path.{_≡_, refl, sym, ap}
 use mathlib.Core.Bool.{Bool, true, false}
 use mathlib.Core.Logic.{by-cases}
 use Prim.Native.Nat.{ℕ, _+_, _-_, _*_, _/_, _%_, _≤_, _<_}
-use native.Mathlib.Nat.{div-eq-of-lt, mod-eq-of-lt, div-eq-of-lt-le, mod-add-div'}
+use native.Mathlib.Nat.{add-mul, one-mul, div-eq-of-lt, mod-eq-of-lt, div-eq-of-lt-le, mod-add-div'}
 use native.Mathlib.Decide.{decLt}
 use native.Mathlib.Omega.{arith}
 use Rattle.mask_edges.specs.Folds.{edgeWord, classes, edgeBit}
@@ -25,6 +25,19 @@ module _ (pass unit class : ℕ) where
   word-half : (chroma : Bool) (h : ℕ) → edgeWord chroma pass unit class h ≡ edgeWord chroma pass unit class 0 + h
   word-half true h = omega arith
   word-half false h = omega arith
+
+  -- two words to a class
+  pub class-word : (chroma : Bool) (h : ℕ) → edgeWord chroma pass unit class h ≡ edgeWord chroma pass unit 0 0 + h + 2 * class
+  class-word true h = omega arith
+  class-word false h = omega arith
+
+  -- the bit of a place in either half
+  pub bit-at : (chroma : Bool) (half w q h : ℕ) → w ≡ edgeWord chroma pass unit 0 0 → h * half ≤ q → q < h * half + half
+      → 16 * (w + h + 2 * class) + (q - h * half) ≡ edgeBit chroma half pass unit class q
+  unfolding edgeBit
+  bit-at chroma half w q h e l g =
+      let d : q / half ≡ h = div-eq-of-lt-le {k = h} half l (omega (arith, add-mul h 1 half, one-mul half)) in
+      rw d (omega (arith, class-word chroma h, e, mod-add-div' q half, ap (λ (k : ℕ). k * half) d))
 
   module _ (chroma : Bool) (half w q : ℕ) (e : w ≡ edgeWord chroma pass unit class 0) where
     pub bit-low : q < half → 16 * w + q ≡ edgeBit chroma half pass unit class q

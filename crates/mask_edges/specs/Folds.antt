@@ -5,6 +5,7 @@
 --   stepEdges               inner edges at k steps of one transform's side, each of one class
 --   walk, lineEdges         inner edges along one line, from transform to transform, and along n of them; f bounds the steps
 --   stores n f              the first n places of a context are f
+--   Edged                   the contexts c and the masks ms with the block's own edge recorded for v units, all of one class
 --   gridPass, cellPass      one pass: over a block of one transform, and over one whose cells tell its transforms
 --   columnsOf, rowsOf       the two passes over a block
 --   gridMasks, cellMasks    both, the contexts a above and l left
@@ -57,6 +58,10 @@ module _ (bit : ℕ → ℕ → ℕ → ℕ) where
 
 unfoldable pub stores : ℕ → (ℕ → ℕ) → List ℕ → List ℕ
 stores n f = upTo (λ v c. set c v (f v)) n
+
+pub record Edged (p : Pass) (class : ℕ) (c ms : List ℕ) (v : ℕ) (ctx masks : List ℕ) : Type 0 where
+  pub context : ctx ≡ stores v (λ _. class) c
+  pub edge : masks ≡ blockEdge (bitIn p) v (λ _. class) (λ i. getD c i 0) ms
 
 module _ (bit : ℕ → ℕ → ℕ → ℕ) (across along : ℕ) where
   unfoldable pub gridPass : ℕ → ℕ → Bool → (ℕ → ℕ) → List ℕ → List ℕ

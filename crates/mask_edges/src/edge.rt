@@ -56,7 +56,7 @@ pub fn least(a: u8, b: u8) -> u8
 }
 
 // The word of an edge's lower half.
-fn edge_word(chroma: bool, pass: usize, unit: usize, class: u8) -> usize
+pub fn edge_word(chroma: bool, pass: usize, unit: usize, class: u8) -> usize
     requires { ⌜ (pass < 2) × (unit < 32) × (class < classes chroma) ⌝ }
     ensures { λ r. ⌜ (r ≡ edgeWord chroma pass unit class 0) × (r < 639) ⌝ }
 {
@@ -64,6 +64,15 @@ fn edge_word(chroma: bool, pass: usize, unit: usize, class: u8) -> usize
         return chroma_word(pass, ChromaUnit(unit), class, 0);
     }
     luma_word(pass, LumaUnit(unit), class, 0)
+}
+
+// Bit k of the word of a class, two to a class from `at` on.
+pub fn set_in(masks: &mut [u16], at: usize, class: u8, k: usize)
+    requires { ⌜ (at + 2 * class < length (now masks)) × (k < 16) ⌝ }
+    ensures { λ _. ⌜ now (masks .exit) ≡ mark (now (masks .entry)) (16 * (at + 2 * class) + k) ⌝ }
+{
+    let w = at + 2 * class as usize;
+    masks[w] = masks[w] | bits::bit16(k as u32);
 }
 
 // The block's edge at (u, v).

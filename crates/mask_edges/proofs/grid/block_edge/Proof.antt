@@ -1,75 +1,79 @@
--- The units passed have their edge.
-use Rattle.mask_edges.proofs.Turns.{held, block-none, block-step}
-use Rattle.mask_edges.specs.Folds.{bitIn, blockEdge}
+-- The units lie in one half, or in both in turn.
 use denote.Ref.{now}
-use lib.ListN.{length, getD}
 use borrow.Author.Needs.{needs}
-use native.Mathlib.Omega.{arith}
-use mathlib.Core.Path.{_≡_, refl, _∙_}
-use Prim.Native.Nat.{_-_, _≤_}
+use Rattle.mask_edges.proofs.Turns.{edged-none}
 use Rattle.mask_edges.proofs.grid.block_edge.Statement.{statement}
 use Rattle.mask_edges.proofs.grid.block_edge.Tie as tie
 
-abbrev Inv-loop : tie.InvT-loop
-Inv-loop masks₀ p class ctx n v₀ masks v = (v ≤ n) × (length masks ≡ length masks₀) × (masks ≡ blockEdge (bitIn p) v (λ _. class) (λ i. getD ctx i 0) masks₀)
+half-edge-requires : tie.Need-half-edge-requires
+half-edge-requires c κs = search needs
 
-abbrev μ-loop : tie.MeasureT-loop
-μ-loop masks₀ p class ctx n v₀ masks v = n - v
-
-loop-holds : tie.Need-loop-holds Inv-loop μ-loop
-loop-holds c = (omega arith, refl, block-none _ _ _ _)
-
-shared-slice-read-least : tie.Need-shared-slice-read-least Inv-loop μ-loop
-shared-slice-read-least c = search needs
-
-least-requires : tie.Need-least-requires Inv-loop μ-loop
-least-requires c κs = search needs
-
-set-edge-requires : tie.Need-set-edge-requires Inv-loop μ-loop
-set-edge-requires c κs =
-    let c₄ = c .before .before .before .before in
-    let c₇ = c₄ .before .before .before in
-    let h = c₇ .pre in
-    (held _ (c₄ .loop .inv .1) (h .0), omega (arith, h .1, c .least .ensures), h .2, omega arith)
-
-add-v : tie.Need-add-v Inv-loop μ-loop
-add-v c = search needs
-
-loop-less : tie.Need-loop-less Inv-loop μ-loop
-loop-less c = search needs
-
-loop-again : tie.Need-loop-again Inv-loop μ-loop
-loop-again c =
-    let c₃ = c .before .before .before in
-    let c₇ = c₃ .before .before .before .before in
-    let c₁₀ = c₇ .before .before .before in
-    let a = c₁₀ .args in (
-      omega arith,
-      c .before .before .set-edge .kept .0 ∙ c₇ .loop .inv .1,
-      block-step (bitIn (a .p)) (λ _. a .class) (λ i. getD (now (a .ctx)) i 0) (c₇ .loop .v) _ _ _ _ (c₇ .loop .inv .2) (c₃ .least .ensures)
-          (c .before .before .set-edge .ensures),
-    )
-
-same-length : tie.Need-same-length Inv-loop μ-loop
+same-length : tie.Need-same-length
 same-length c = search needs
 
-returns : tie.Need-returns Inv-loop μ-loop
+same-length-2 : tie.Need-same-length-2
+same-length-2 c = search needs
+
+returns : tie.Need-returns
 returns c =
-    let e : c .before .loop .v ≡ c .before .before .before .before .args .p .along = omega arith in
-    rw (← e) (c .before .loop .inv .2)
+    let a = c .before .before .before .before .before .before .before .before .before .before .before .args in
+    let none = edged-none (a .p) (a .class) (now (a .ctx)) (now (a .masks)) in
+    let E = c .before .before .before .before .half-edge .ensures _ _ none in
+    (E .edge, E .context)
+
+sub-n : tie.Need-sub-n
+sub-n c = search needs
+
+half-edge-requires-2 : tie.Need-half-edge-requires-2
+half-edge-requires-2 c κs = search needs
+
+same-length-3 : tie.Need-same-length-3
+same-length-3 c = search needs
+
+same-length-4 : tie.Need-same-length-4
+same-length-4 c = search needs
+
+returns-2 : tie.Need-returns-2
+returns-2 c =
+    let a = c .before .before .before .before .before .before .before .before .before .before .before .before .before .before .args in
+    let none = edged-none (a .p) (a .class) (now (a .ctx)) (now (a .masks)) in
+    let E = c .before .before .before .before .half-edge2 .ensures _ _ none in
+    (E .edge, E .context)
+
+half-edge-requires-3 : tie.Need-half-edge-requires-3
+half-edge-requires-3 c κs = search needs
+
+half-edge-requires-4 : tie.Need-half-edge-requires-4
+half-edge-requires-4 c κs = search needs
+
+same-length-5 : tie.Need-same-length-5
+same-length-5 c = search needs
+
+same-length-6 : tie.Need-same-length-6
+same-length-6 c = search needs
+
+returns-3 : tie.Need-returns-3
+returns-3 c =
+    let a = c .before .before .before .before .before .before .before .before .before .before .before .before .before .before .before .before .before .before .before .before .before .args in
+    let none = edged-none (a .p) (a .class) (now (a .ctx)) (now (a .masks)) in
+    let E = c .before .before .before .before .half-edge4 .ensures _ _ (c .before .before .before .before .before .before .before .before .before .before .before .half-edge3 .ensures _ _ none) in
+    (E .edge, E .context)
 
 pub block-edge-spec : {M : Type 1} → statement M
 block-edge-spec =
     tie.close
     (tie.spec
-    Inv-loop
-    μ-loop
-    loop-holds
-    shared-slice-read-least
-    least-requires
-    set-edge-requires
-    add-v
-    loop-less
-    loop-again
+    half-edge-requires
     same-length
-    returns)
+    same-length-2
+    returns
+    sub-n
+    half-edge-requires-2
+    same-length-3
+    same-length-4
+    returns-2
+    half-edge-requires-3
+    half-edge-requires-4
+    same-length-5
+    same-length-6
+    returns-3)
