@@ -8,3 +8,4 @@ pub mod Tiles
 pub mod Tells
 pub mod Edges
 pub mod Theorems
+pub mod Whole

@@ -51,7 +51,7 @@ fits chroma half pass unit place across along n hp hh hu hq hn u k v lu lk lv =
 -- ---- the recorders
 
 -- both passes of a plane; ss 0 for luma
-abbrev bitsOf : Bool → ℕ → ℕ → ℕ → ℕ → ℕ → ℕ → ℕ
+abbrev pub bitsOf : Bool → ℕ → ℕ → ℕ → ℕ → ℕ → ℕ → ℕ
 bitsOf chroma hor ver zero = edgeBit chroma (halfUnits ver) 0
 bitsOf chroma hor ver (suc pass) = edgeBit chroma (halfUnits hor) 1
 
@@ -67,10 +67,10 @@ module _ (by4 bx4 w4 h4 hor ver : ℕ) (a l ms : List ℕ) (r : Room by4 bx4 w4 
       fits chroma (halfUnits hor) 1 by4 bx4 h4 w4 (length ms) (omega arith) (halves hor sh .1) (omega (arith, r .high .1)) (r .wide .1) (r .record-words)
 
   module _ (chroma : Bool) (class : ℕ → ℕ) (low : (n : ℕ) → class n < classes chroma) (skip : Bool) (t : ℕ) (c : t < 19) where
-    B : Block
+    unfoldable pub B : Block
     B = blockOf class (not skip) (λ _ _. t) by4 bx4 w4 h4 a l
 
-    one-recorded : Recorded B (bitsOf chroma hor ver) ms
+    pub one-recorded : Recorded B (bitsOf chroma hor ver) ms
         (gridMasks (columnsOf chroma (halfUnits ver) by4 bx4 w4 h4) (rowsOf chroma (halfUnits hor) by4 bx4 w4 h4) class t skip a l ms)
     unfolding gridMasks B
     one-recorded =
@@ -91,7 +91,7 @@ module _ (by4 bx4 w4 h4 hor ver : ℕ) (a l ms : List ℕ) (r : Room by4 bx4 w4 
 
 module _ (by4 bx4 w4 h4 : ℕ) (skip : Bool) (t : ℕ) (tx-masks a l ms : List ℕ) (r : Room by4 bx4 w4 h4 0 0 (length ms) (length a) (length l))
     (c : Covers t w4 h4) where
-  I : Block
+  unfoldable pub I : Block
   I = interBlock by4 bx4 w4 h4 skip t tx-masks a l
 
   across : Reads (tables tx-masks t w4 h4) 0 (columns I)
@@ -102,7 +102,7 @@ module _ (by4 bx4 w4 h4 : ℕ) (skip : Bool) (t : ℕ) (tx-masks a l ms : List �
   unfolding I
   down = tables-rows by4 bx4 w4 h4 t skip tx-masks a l c
 
-  inter-recorded : Recorded I (bitsOf false 0 0) ms (interMasks by4 bx4 w4 h4 skip t tx-masks a l ms)
+  pub inter-recorded : Recorded I (bitsOf false 0 0) ms (interMasks by4 bx4 w4 h4 skip t tx-masks a l ms)
   unfolding cellMasks I
   inter-recorded =
       recorded I (bitsOf false 0 0) ms _ _

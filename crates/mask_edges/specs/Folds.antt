@@ -12,7 +12,7 @@
 --   Reach step x            x is reached from 0 by one step or more
 --   cellAt pass what u v    the cell of the tables a of transforms that tells the class (what 0) or the step (1) at (u, v); classIn a p, stepIn a p
 --   tables ms t w4 h4       the tables of an inter block, from cells of 0
---   intraMasks, chromaMasks, interMasks, lastRow, lastColumn     what the recorders leave
+--   oneMasks, intraMasks, chromaMasks, interMasks, lastRow, lastColumn     what the recorders leave
 --   Held p len, Told        what the helpers ask: the block lies in the record; the cells hold classes, and steps that go on
 use mathlib.Core.Path.{_≡_}
 use mathlib.Core.Bool.{Bool, true, false, cond}
@@ -126,8 +126,11 @@ pub record Told (a : List ℕ) (p : Pass) : Type 0 where
   pub steps : (u v : ℕ) → Reach (λ x. stepIn a p x v) u → u < p .across → v < p .along → 0 < stepIn a p u v
 
 module _ (by4 bx4 w4 h4 : ℕ) where
+  abbrev pub oneMasks : Bool → ℕ → List ℕ → List ℕ → List ℕ → List ℕ
+  oneMasks skip t = gridMasks (columnsOf false 16 by4 bx4 w4 h4) (rowsOf false 16 by4 bx4 w4 h4) lumaClass t skip
+
   abbrev pub intraMasks : ℕ → List ℕ → List ℕ → List ℕ → List ℕ
-  intraMasks t = gridMasks (columnsOf false 16 by4 bx4 w4 h4) (rowsOf false 16 by4 bx4 w4 h4) lumaClass t false
+  intraMasks = oneMasks false
 
   abbrev pub chromaMasks : Bool → ℕ → ℕ → ℕ → List ℕ → List ℕ → List ℕ → List ℕ
   chromaMasks skip t hor ver = gridMasks (columnsOf true (halfUnits ver) by4 bx4 w4 h4) (rowsOf true (halfUnits hor) by4 bx4 w4 h4) chromaClass t skip

@@ -17,15 +17,40 @@ use units::sizes::luma_class;
 use units::sizes::luma_tx_high;
 use units::sizes::luma_tx_wide;
 ghost use mathlib.Core.Path.{_≡_};
-ghost use mathlib.Core.Bool.{true, false};
-ghost use Prim.Native.Nat.{_<_, _≤_};
-ghost use lib.ListN.{length};
+ghost use mathlib.Core.Bool.{true, false, _||_};
+ghost use Prim.Native.Nat.{ℕ, _<_, _≤_};
+ghost use lib.Dec.{eqb};
+ghost use lib.ListN.{length, getD};
 ghost use Rattle.standard.specs.Sizes.{Tx_Wide, Tx_High};
 ghost use Rattle.units.specs.Sizes.{lumaClass, chromaClass};
 ghost use Rattle.decomp.specs.Cells.{Covers};
 ghost use Rattle.mask_edges.specs.Recording.{Room};
-ghost use Rattle.mask_edges.specs.Folds.{intraMasks, chromaMasks, interMasks, lastRow, lastColumn, stores};
+ghost use Rattle.mask_edges.specs.Folds.{oneMasks, intraMasks, chromaMasks, interMasks, lastRow, lastColumn, stores};
 ghost use Rattle.mask_edges.specs.Promises.{Promises};
+
+// A block of one transform, of w by h units.
+fn one_transform(
+    masks: &mut [u16],
+    by4: LumaUnit,
+    bx4: LumaUnit,
+    w4: LumaUnit,
+    h4: LumaUnit,
+    skip: bool,
+    w: LumaUnit,
+    h: LumaUnit,
+    a: &mut [u8],
+    l: &mut [u8],
+)
+    requires { ⌜ Room (by4 .0) (bx4 .0) (w4 .0) (h4 .0) 0 0 (length (now masks)) (length (now a)) (length (now l)) × (0 < w .0) × (0 < h .0) ⌝ }
+    ensures masks { λ _. ⌜ ((t : ℕ) → w .0 ≡ Tx_Wide t → h .0 ≡ Tx_High t → now (masks .exit) ≡ oneMasks (by4 .0) (bx4 .0) (w4 .0) (h4 .0) skip t (now (a .entry)) (now (l .entry)) (now (masks .entry))) ⌝ }
+    ensures above { λ _. ⌜ now (a .exit) ≡ stores (w4 .0) (λ _. lumaClass (h .0)) (now (a .entry)) ⌝ }
+    ensures left { λ _. ⌜ now (l .exit) ≡ stores (h4 .0) (λ _. lumaClass (w .0)) (now (l .entry)) ⌝ }
+{
+    let across = columns(false, 16, by4.0, bx4.0, w4.0, h4.0);
+    let down = rows(false, 16, by4.0, bx4.0, w4.0, h4.0);
+    mask_grid(masks, across, w.0, luma_class(w), skip, l);
+    mask_grid(masks, down, h.0, luma_class(h), skip, a);
+}
 
 pub fn mask_edges_intra(
     masks: &mut [u16],
@@ -44,10 +69,7 @@ pub fn mask_edges_intra(
 {
     let w = luma_tx_wide(tx);
     let h = luma_tx_high(tx);
-    let across = columns(false, 16, by4.0, bx4.0, w4.0, h4.0);
-    let down = rows(false, 16, by4.0, bx4.0, w4.0, h4.0);
-    mask_grid(masks, across, w.0, luma_class(w), false, l);
-    mask_grid(masks, down, h.0, luma_class(h), false, a);
+    one_transform(masks, by4, bx4, w4, h4, false, w, h, a, l);
 }
 
 pub fn mask_edges_chroma(
@@ -76,6 +98,13 @@ pub fn mask_edges_chroma(
     mask_grid(masks, down, h.0, chroma_class(h), skip_inter, a);
 }
 
+// No transform of the block can be split.
+fn is_whole(max_tx: usize, tx_masks: &[u16; 2]) -> bool
+    ensures { λ r. ⌜ r ≡ (eqb «max_tx» 0 || eqb (getD (now («tx_masks» .entry)) 0 0) 0) ⌝ }
+{
+    (max_tx == 0) | (tx_masks[0] == 0)
+}
+
 pub fn mask_edges_inter(
     masks: &mut [u16],
     by4: LumaUnit,
@@ -93,6 +122,12 @@ pub fn mask_edges_inter(
     ensures above { λ _. ⌜ now (a .exit) ≡ stores (w4 .0) (lastRow (now («tx_masks» .entry)) «max_tx» (w4 .0) (h4 .0)) (now (a .entry)) ⌝ }
     ensures left { λ _. ⌜ now (l .exit) ≡ stores (h4 .0) (lastColumn (now («tx_masks» .entry)) «max_tx» (w4 .0) (h4 .0)) (now (l .entry)) ⌝ }
 {
+    if is_whole(max_tx, tx_masks) {
+        let w = luma_tx_wide(max_tx);
+        let h = luma_tx_high(max_tx);
+        one_transform(masks, by4, bx4, w4, h4, skip, w, h, a, l);
+        return;
+    }
     let mut txa = [0u8; 4096];
     decomp_block(&mut txa, max_tx, w4, h4, tx_masks);
     let across = columns(false, 16, by4.0, bx4.0, w4.0, h4.0);

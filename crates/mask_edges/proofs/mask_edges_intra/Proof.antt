@@ -1,10 +1,6 @@
--- Two passes over one transform's grid.
-use mathlib.Core.Bool.{false}
-use Rattle.mask_edges.proofs.Asks.{grid-asked, grid-both, context-filled}
+-- The block of one transform, with its inner edges.
+use mathlib.Core.Path.{refl, _∙_}
 use Rattle.units.proofs.Rules.{tx-rule}
-use Rattle.units.specs.Sizes.{lumaClass}
-use native.Mathlib.Omega.{arith}
-use mathlib.Core.Path.{refl}
 use borrow.Author.Needs.{needs}
 use Rattle.mask_edges.proofs.mask_edges_intra.Statement.{statement}
 use Rattle.mask_edges.proofs.mask_edges_intra.Tie as tie
@@ -15,39 +11,11 @@ luma-tx-wide-requires c κs = search needs
 luma-tx-high-requires : tie.Need-luma-tx-high-requires
 luma-tx-high-requires c κs = search needs
 
-columns-requires : tie.Need-columns-requires
-columns-requires c κs = search needs
-
-rows-requires : tie.Need-rows-requires
-rows-requires c κs = search needs
-
-luma-class-requires : tie.Need-luma-class-requires
-luma-class-requires c κs = search needs
-
-mask-grid-requires : tie.Need-mask-grid-requires
-mask-grid-requires c κs =
-    let c₄ = c .before .before .before .before in
-    let c₆ = c₄ .before .before in
-    let c₁₀ = c₆ .before .before .before .before in
-    let r = c₁₀ .pre .0 in
-    let w = tx-rule _ (c₁₀ .pre .1) in
-    grid-asked _ false 16 0 _ _ _ _ _ (c₄ .columns .ensures) (omega arith) (omega arith, omega arith) (r .wide .1) (r .high .1) (r .record-words) _ _ _
-    (omega (arith, c .before .luma-class .ensures)) (r .wide .0) (rw (c₆ .luma-tx-wide .ensures) (w .wide .low)) (r .left-units)
-
-luma-class-requires-2 : tie.Need-luma-class-requires-2
-luma-class-requires-2 c κs = search needs
-
-mask-grid-requires-2 : tie.Need-mask-grid-requires-2
-mask-grid-requires-2 c κs =
-    let c₇ = c .before .before .before .before .before .before .before in
-    let c₁₁ = c₇ .before .before .before .before in
-    let c₁₃ = c₁₁ .before .before in
-    let c₁₈ = c₁₃ .before .before .before .before .before in
-    let r = c₁₈ .pre .0 in
-    let w = tx-rule _ (c₁₈ .pre .1) in
-    grid-asked _ false 16 1 _ _ _ _ _ (c₁₁ .rows .ensures) (omega arith) (omega arith, omega arith) (r .high .1) (r .wide .1)
-    (rw (c₇ .mask-grid .kept .0) (r .record-words)) _ _ _
-    (omega (arith, c .before .luma-class2 .ensures)) (r .high .0) (rw (c₁₃ .luma-tx-high .ensures) (w .high .low)) (r .above-units)
+one-transform-requires : tie.Need-one-transform-requires
+one-transform-requires c κs =
+    let p = c .before .before .before .before .before .before .before .before .pre in
+    let w = tx-rule _ (p .1) in
+    (p .0, rw (c .before .before .before .before .luma-tx-wide .ensures) (w .wide .low), rw (c .before .before .before .luma-tx-high .ensures) (w .high .low))
 
 same-length : tie.Need-same-length
 same-length c = search needs
@@ -60,24 +28,10 @@ same-length-3 c = search needs
 
 returns : tie.Need-returns
 returns c =
-    let c₄ = c .before .before .before .before in
-    let c₆ = c₄ .before .before in
-    let c₁₂ = c₆ .before .before .before .before .before .before in
-    let c₁₄ = c₁₂ .before .before in
-    let c₁₆ = c₁₄ .before .before in
-    let c₁₇ = c₁₆ .before in
-    let c₁₈ = c₁₇ .before in
-    let c₁₉ = c₁₈ .before in
-    let w = c₁₉ .luma-tx-wide .ensures in
-    let h = c₁₈ .luma-tx-high .ensures in (
-      grid-both _ _ _ _ lumaClass _ _ _ _ _ false _ _ _ _ _ (c₁₇ .columns .ensures) (c₁₆ .rows .ensures) w h (c₁₄ .luma-class .ensures)
-          (c₆ .luma-class2 .ensures)
-          (c₁₂ .mask-grid .ensures .0) (c₄ .mask-grid2 .ensures .0),
-      (
-        context-filled lumaClass _ _ _ _ _ _ _ (c₄ .mask-grid2 .ensures .1) (rw (c₁₆ .rows .ensures) refl) (c₆ .luma-class2 .ensures) h,
-        context-filled lumaClass _ _ _ _ _ _ _ (c₁₂ .mask-grid .ensures .1) (rw (c₁₇ .columns .ensures) refl) (c₁₄ .luma-class .ensures) w,
-      ),
-    )
+    let E = c .before .before .before .before .before .before .one-transform .ensures in
+    let w = c .before .before .before .before .before .before .before .before .before .before .before .luma-tx-wide .ensures in
+    let h = c .before .before .before .before .before .before .before .before .before .before .luma-tx-high .ensures in
+    (E .0 _ w h, (E .1 .0 ∙ rw h refl, E .1 .1 ∙ rw w refl))
 
 pub mask-edges-intra-spec : {M : Type 1} → statement M
 mask-edges-intra-spec =
@@ -85,12 +39,7 @@ mask-edges-intra-spec =
     (tie.spec
     luma-tx-wide-requires
     luma-tx-high-requires
-    columns-requires
-    rows-requires
-    luma-class-requires
-    mask-grid-requires
-    luma-class-requires-2
-    mask-grid-requires-2
+    one-transform-requires
     same-length
     same-length-2
     same-length-3
