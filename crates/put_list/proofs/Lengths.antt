@@ -8,6 +8,7 @@ use native.Mathlib.Nat.{suc-mul}
 use native.Mathlib.Omega.{arith}
 use lib.Dec.{eqb}
 use lib.ListN.{length, getD, length-append}
+use Rattle.loops.specs.Run.{cat}
 use Rattle.plane.specs.Line.{Pass, columns, rows}
 use Rattle.plane.specs.Plane.{unit}
 use Rattle.units.specs.Layout.{hasChroma, ssHor, ssVer}
@@ -17,7 +18,7 @@ use Rattle.edges.specs.Edges.{lumaGrid, chromaGrid, passNo, unitsOf, edge}
 use Rattle.text.specs.Text.{tab, end, edgeText, totalText}
 use Rattle.text.proofs.Puts as text
 use Rattle.edge_at.proofs.Classes.{class-lt}
-use Rattle.listed.specs.Listed.{Held, Edge, cat, planes, gridIn, kind, levelIn, edgeIn, found, edgesAt, edgesIn, edgesOf, lineText, linesText, listText}
+use Rattle.listed.specs.Listed.{Held, Edge, planes, gridIn, kind, levelIn, edgeIn, found, edgesAt, edgesIn, edgesOf, lineText, linesText, listText}
 use Rattle.put_list.specs.Written.{heldOf, lineIn, planeIn, Fits}
 use Rattle.put_list.specs.Promises.{Promises}
 

@@ -6,10 +6,11 @@ use native.Mathlib.Nat.{add-zero, zero-add}
 use native.Mathlib.Numerals.{add-one}
 use native.Mathlib.Omega.{arith}
 use lib.ListN.{length, take, drop, length-append, take-append-drop}
+use Rattle.loops.specs.Run.{cat}
 use Rattle.loops.proofs.Lists.{row-in}
 use Rattle.text.specs.Text.{header, totalText, Put}
 use Rattle.text.proofs.Puts.{put-then}
-use Rattle.listed.specs.Listed.{Held, Edge, cat, edgesOf, lineText, linesText, listText}
+use Rattle.listed.specs.Listed.{Held, Edge, edgesOf, lineText, linesText, listText}
 use Rattle.put_list.specs.declared.Written.{Written}
 use Rattle.put_list.specs.Written.{Wrote, Room}
 use Rattle.put_list.proofs.Lengths.{lines-append, Short, short-cat, Small, short-all, total-short}

@@ -11,11 +11,12 @@ use mathlib.Core.List.{List, [], _++_}
 use mathlib.Core.Path.{_≡_}
 use Prim.Native.Nat.{ℕ, _+_, _*_, _^_, _≤_, _<_}
 use lib.ListN.{length}
+use Rattle.loops.specs.Run.{cat}
 use Rattle.plane.specs.Line.{Pass, columns, rows}
 use Rattle.units.specs.Frame.{frameRecords}
 use Rattle.edges.specs.Edges.{Grid, unitsOf}
 use Rattle.text.specs.Text.{Put}
-use Rattle.listed.specs.Listed.{Held, Edge, cat, gridIn, edgesAt, edgesIn, linesText}
+use Rattle.listed.specs.Listed.{Held, Edge, gridIn, edgesAt, edgesIn, linesText}
 use Rattle.put_list.specs.declared.Part.{Part}
 use Rattle.put_list.specs.declared.Written.{Written}
 

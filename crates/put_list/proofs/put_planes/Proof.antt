@@ -5,7 +5,8 @@ use native.Mathlib.Omega.{arith}
 use lib.ListN.{length}
 use denote.Ref.{now}
 use borrow.Author.Needs.{needs}
-use Rattle.listed.specs.Listed.{cat, edgesOf}
+use Rattle.loops.specs.Run.{cat}
+use Rattle.listed.specs.Listed.{edgesOf}
 use Rattle.put_list.specs.Written.{heldOf, planeIn, Room, Wrote}
 use Rattle.put_list.proofs.Lengths.{Short, planes-le, small, short-plane}
 use Rattle.put_list.proofs.Writes.{wrote-none, room-le, turn-room, turn-next}
