@@ -12,7 +12,7 @@ use lib.Signed.{ltZ, shrZ}
 use Rattle.standard.specs.Math.{Clip3, Round2}
 use Rattle.standard.specs.Narrow.{filter4_clamp, centred, baseFilter, filter12, moved, narrowed}
 use Rattle.loops.proofs.Ints.{sub-eq, is-pos, is-neg, pos-sub, neg-pos, neg-sub, add-sub, lt-sub}
-use Rattle.line.proofs.Ints.{sub-sub, plus-sub, thrice-sub, shr2-sub}
+use Rattle.line.proofs.Ints.{sub-sub, plus-sub, thrice-sub, shr8-sub, shr2-sub}
 
 module _ (half v b : ℕ) where
   below : ltZ (subℕ v b) (negℤ (pos half)) ≡ ltb (v + half) b
@@ -99,6 +99,26 @@ pub narrowed-by : (h : ℕ) (v : Bool) (x : ℕ → ℕ) (F f1 f2 : ℕ)
 unfolding narrowed
 narrowed-by h v x F f1 f2 eF e1 e2 =
     rw (← eF, ← e1, ← e2, neg-sub f1 h, round-sub f1 h, neg-sub ((f1 + 1 + h) / 2) h)
+
+-- the same with no high variance, where the filter value v and the sums of filter1 and filter2 clamp nothing
+module _ (h : ℕ) (x : ℕ → ℕ) (v : ℕ) (low : 7 * h ≤ v) (high : v + 4 < 9 * h) where
+  unclamped : (k : ℕ) → k ≤ 4 → subℕ ((v + k) / 8) h ≡ filter12 h k (subℕ v (8 * h))
+  unfolding filter12
+  unclamped k i =
+      sym (shr8-sub (v + k) h)
+      ∙ ap (λ z. shrZ z 8) (sym (ap (filter4_clamp h) (plus-sub v (8 * h) k) ∙ clamp-mid h (v + k) (8 * h) (omega arith) (omega arith)))
+
+  pub plainly : 3 * x 7 ≤ 8 * h + 3 * x 8 → v ≡ 8 * h + 3 * x 8 - 3 * x 7
+      → narrowed h false x (baseFilter h false x)
+      ≡ (moved h (x 6) (subℕ (((v + 4) / 8 + 1 + h) / 2) h)
+      ∷ moved h (x 7) (subℕ ((v + 3) / 8) h)
+      ∷ moved h (x 8) (subℕ h ((v + 4) / 8))
+      ∷ moved h (x 9) (subℕ h (((v + 4) / 8 + 1 + h) / 2))
+      ∷ [])
+  plainly k e =
+      narrowed-by h false x v ((v + 4) / 8) ((v + 3) / 8)
+      (filter-flat h x v k (rw (← e) (sym (clamp-mid h v (8 * h) (omega arith) (omega arith)))))
+      (unclamped 4 (omega arith)) (unclamped 3 (omega arith))
 
 -- any clamped value lies in the samples' range
 clamp-range : (h : ℕ) → 0 < h → (v b : ℕ) → natAbs (filter4_clamp h (subℕ v b) +ℤ pos h) < 2 * h

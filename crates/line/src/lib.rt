@@ -1,7 +1,7 @@
 // One line of samples across an edge, by value: the tests and the filters of 7.14.6. The standard's signed values are kept as
 // unsigned ones with an offset: a filter value as its sum with 8 * half, an eighth of one as its sum with half.
 ghost use mathlib.Core.Path.{_≡_};
-ghost use mathlib.Core.Bool.{true, _&&_};
+ghost use mathlib.Core.Bool.{true, false, _&&_};
 ghost use mathlib.Core.List.{[], _∷_};
 ghost use Prim.Native.Nat.{_+_, _*_, _/_, _<_, _≤_};
 ghost use lib.IntN.{subℕ};
@@ -38,19 +38,23 @@ fn distance(a: u16, b: u16) -> u32
 {
     let x = a as u32;
     let y = b as u32;
-    if x <= y { y - x } else { x - y }
+    let d = std::num::wrapping_sub_u32(x, y);
+    if d < 2147483648 { d } else { y - x }
 }
 
 fn is_near(t: u32, a: u16, b: u16) -> bool
     ensures { λ r. ⌜ r ≡ near t a b ⌝ }
 {
-    distance(a, b) <= t
+    std::num::wrapping_sub_u64(a as u64 + t as u64, b as u64) <= 2 * t as u64
 }
 
 fn both_near(t: u32, a: u16, b: u16, c: u16, d: u16) -> bool
     ensures { λ r. ⌜ r ≡ (near t a b && near t c d) ⌝ }
 {
-    is_near(t, a, b) & is_near(t, c, d)
+    if !is_near(t, a, b) {
+        return false;
+    }
+    is_near(t, c, d)
 }
 
 pub fn filter_mask4(t: Bounds, l: Line) -> bool
@@ -108,7 +112,10 @@ fn flat_mask2(t: Bounds, l: Line) -> bool
 pub fn hev_mask(t: Bounds, l: Line) -> bool
     ensures { λ r. ⌜ r ≡ hevMask t (of l) ⌝ }
 {
-    (distance(l.p1, l.p0) > t.h) | (distance(l.q1, l.q0) > t.h)
+    if !is_near(t.h, l.p1, l.p0) {
+        return true;
+    }
+    !is_near(t.h, l.q1, l.q0)
 }
 
 // Which filter: 0 none, 1 the narrow one, else the wide one that changes so many samples a side.
@@ -161,7 +168,12 @@ fn eighth(half: u32, f: u32, k: u32) -> u32
     requires { ⌜ (0 < half) × (half ≤ 2048) × (7 * half ≤ f) × (f < 9 * half) × (k ≤ 4) ⌝ }
     ensures { λ r. ⌜ (subℕ r half ≡ filter12 half k (subℕ f (8 * half))) × (r < 2 * half) ⌝ }
 {
-    clamp(half, f + k) / 8
+    let x = f + k;
+    if x < 9 * half {
+        x / 8
+    } else {
+        (9 * half - 1) / 8
+    }
 }
 
 // The sample s moved by a - b.
@@ -170,14 +182,11 @@ fn move_by(half: u32, s: u16, a: u32, b: u32) -> u16
     ensures { λ r. ⌜ r ≡ moved half s (subℕ a b) ⌝ }
 {
     let up = s as u32 + a;
-    if up < b {
-        return 0;
-    }
-    let x = up - b;
+    let x = std::num::wrapping_sub_u32(up, b);
     if x < 2 * half {
         return x as u16;
     }
-    (2 * half - 1) as u16
+    if up < b { 0 } else { (2 * half - 1) as u16 }
 }
 
 pub fn narrow4(half: u32, hev: bool, l: Line) -> Line
@@ -197,6 +206,51 @@ pub fn narrow4(half: u32, hev: bool, l: Line) -> Line
     r.p1 = move_by(half, l.p1, f3, half);
     r.q1 = move_by(half, l.q1, half, f3);
     r
+}
+
+// The line of the narrow filter with no high variance, where it is known: no step clamps then.
+pub struct Plain {
+    pub known: bool,
+    pub line: Line,
+}
+
+pub fn plain4(half: u32, l: Line) -> Plain
+    requires { ⌜ (0 < half) × (half ≤ 2048) × (l .p1 < 2 * half) × (l .p0 < 2 * half) × (l .q0 < 2 * half) × (l .q1 < 2 * half) ⌝ }
+    ensures { λ r. ⌜ (r .known ≡ true → r .line ≡ make (narrow half false (of l))) ⌝ }
+{
+    let no = Plain {
+        known: false,
+        line: l,
+    };
+    let p0 = l.p0 as u32;
+    let q0 = l.q0 as u32;
+    let v = 8 * half + 3 * q0 - 3 * p0;
+    if v < 7 * half {
+        return no;
+    }
+    if v + 4 >= 9 * half {
+        return no;
+    }
+    let g1 = (v + 4) / 8;
+    let g2 = (v + 3) / 8;
+    let g3 = (g1 + 1 + half) / 2;
+    let p1 = std::num::wrapping_sub_u32(l.p1 as u32 + g3, half);
+    if p1 >= 2 * half {
+        return no;
+    }
+    let q1 = std::num::wrapping_sub_u32(l.q1 as u32 + half, g3);
+    if q1 >= 2 * half {
+        return no;
+    }
+    let mut r = l;
+    r.p1 = p1 as u16;
+    r.p0 = (p0 + g2 - half) as u16;
+    r.q0 = (q0 + half - g1) as u16;
+    r.q1 = q1 as u16;
+    Plain {
+        known: true,
+        line: r,
+    }
 }
 
 fn tap5(a0: u16, a1: u16, a2: u16, a3: u16, a4: u16) -> u16

@@ -1,14 +1,15 @@
 // The lines of an edge piece in place: q is the index of q0 in the first line, st the distance of two samples of a line, sa that of two lines.
 // Each function stands twice, for samples of 8 bits and of 16.
 ghost use mathlib.Core.Path.{_≡_};
-ghost use mathlib.Core.Bool.{cond};
+ghost use mathlib.Core.Bool.{true, cond};
 ghost use mathlib.Core.List.{[], _∷_};
 ghost use Prim.Native.Nat.{_+_, _-_, _*_, _<_, _≤_};
 ghost use lib.ListN.{length, getD};
-ghost use Rattle.standard.specs.Masks.{hevMask};
+ghost use Rattle.standard.specs.Masks.{hevMask, filterMask};
 ghost use Rattle.standard.specs.Narrow.{narrow};
 ghost use Rattle.standard.specs.Wide.{wide};
 ghost use Rattle.plane.specs.Line.{put, lineAt, pieceAt};
+ghost use Rattle.line.specs.Choice.{choice};
 ghost use Rattle.line.specs.Place.{of, make};
 ghost use Rattle.line.specs.Rule.{rule};
 ghost use Rattle.line.specs.Width.{Width, Under, reads};
@@ -79,22 +80,23 @@ fn read7_8(s: &[u8], q: usize, st: usize, l: Line) -> Line
     r
 }
 
-fn read_8(s: &[u8], q: usize, st: usize, wd: u32, l: Line) -> Line
-    requires { ⌜ (reads wd * st ≤ q) × (q + (reads wd - 1) * st < length (now s)) × (l ≡ make (seen 2 (across q st (now s)))) ⌝ }
-    ensures { λ r. ⌜ r ≡ make (seen (reads wd) (across q st (now (s .entry)))) ⌝ }
+// line::choose of the line, of which l has p1 p0 q0 q1.
+fn choose_8(s: &[u8], q: usize, st: usize, wd: u32, t: Bounds, l: Line) -> u32
+    requires { ⌜ Width wd × (reads wd * st ≤ q) × (q + (reads wd - 1) * st < length (now s)) × (l ≡ make (seen 2 (across q st (now s)))) × (filterMask 4 t (of l) ≡ true) ⌝ }
+    ensures { λ r. ⌜ r ≡ choice wd t (across q st (now (s .entry))) ⌝ }
 {
     if wd < 6 {
-        return l;
+        return 1;
     }
-    let a = read3_8(s, q, st, l);
+    let l3 = read3_8(s, q, st, l);
     if wd < 8 {
-        return a;
+        return line::choose(6, t, l3);
     }
-    let b = read4_8(s, q, st, a);
+    let l4 = read4_8(s, q, st, l3);
     if wd < 16 {
-        return b;
+        return line::choose(8, t, l4);
     }
-    read7_8(s, q, st, b)
+    line::choose(16, t, read7_8(s, q, st, l4))
 }
 
 fn store1_8(s: &mut [u8], q: usize, st: usize, p0: u16, q0: u16)
@@ -165,12 +167,18 @@ fn narrow_8(s: &mut [u8], q: usize, st: usize, t: Bounds, l: Line)
     requires { ⌜ (2 * st ≤ q) × (q + st < length (now s)) × (t .half ≡ 128) × Under (2 * t .half) 2 (of l) ⌝ }
     ensures { λ _. ⌜ now (s .exit) ≡ stored st q (narrow (t .half) (hevMask t (of l)) (of l)) (cond (hevMask t (of l)) 1 2) (now (s .entry)) ⌝ }
 {
-    let hev = line::hev_mask(t, l);
-    let r = line::narrow4(t.half, hev, l);
-    if hev {
+    if line::hev_mask(t, l) {
+        let r = line::narrow4(t.half, true, l);
         store1_8(s, q, st, r.p0, r.q0);
         return;
     }
+    let f = line::plain4(t.half, l);
+    if f.known {
+        let r = f.line;
+        store2_8(s, q, st, r.p1, r.p0, r.q0, r.q1);
+        return;
+    }
+    let r = line::narrow4(t.half, false, l);
     store2_8(s, q, st, r.p1, r.p0, r.q0, r.q1);
 }
 
@@ -218,12 +226,11 @@ fn line_8(s: &mut [u8], q: usize, st: usize, wd: u32, t: Bounds)
     requires { ⌜ Width wd × (reads wd * st ≤ q) × (q + (reads wd - 1) * st < length (now s)) × (t .half ≡ 128) ⌝ }
     ensures { λ _. ⌜ now (s .exit) ≡ lineAt st (rule wd t) q (now (s .entry)) ⌝ }
 {
-    let a = read2_8(s, q, st);
-    if !line::filter_mask4(t, a) {
+    let l = read2_8(s, q, st);
+    if !line::filter_mask4(t, l) {
         return;
     }
-    let l = read_8(s, q, st, wd, a);
-    let n = line::choose(wd, t, l);
+    let n = choose_8(s, q, st, wd, t, l);
     if n == 0 {
         return;
     }
@@ -231,15 +238,18 @@ fn line_8(s: &mut [u8], q: usize, st: usize, wd: u32, t: Bounds)
         narrow_8(s, q, st, t, l);
         return;
     }
+    let l3 = read3_8(s, q, st, l);
     if n == 2 {
-        wide6_8(s, q, st, l);
+        wide6_8(s, q, st, l3);
         return;
     }
+    let l4 = read4_8(s, q, st, l3);
     if n == 3 {
-        wide8_8(s, q, st, l);
+        wide8_8(s, q, st, l4);
         return;
     }
-    wide16_8(s, q, st, l);
+    let l7 = read7_8(s, q, st, l4);
+    wide16_8(s, q, st, l7);
 }
 
 pub fn piece_8(s: &mut [u8], q: usize, sa: usize, st: usize, wd: u32, t: Bounds)
@@ -314,22 +324,23 @@ fn read7_16(s: &[u16], q: usize, st: usize, l: Line) -> Line
     r
 }
 
-fn read_16(s: &[u16], q: usize, st: usize, wd: u32, l: Line) -> Line
-    requires { ⌜ (reads wd * st ≤ q) × (q + (reads wd - 1) * st < length (now s)) × (l ≡ make (seen 2 (across q st (now s)))) ⌝ }
-    ensures { λ r. ⌜ r ≡ make (seen (reads wd) (across q st (now (s .entry)))) ⌝ }
+// line::choose of the line, of which l has p1 p0 q0 q1.
+fn choose_16(s: &[u16], q: usize, st: usize, wd: u32, t: Bounds, l: Line) -> u32
+    requires { ⌜ Width wd × (reads wd * st ≤ q) × (q + (reads wd - 1) * st < length (now s)) × (l ≡ make (seen 2 (across q st (now s)))) × (filterMask 4 t (of l) ≡ true) ⌝ }
+    ensures { λ r. ⌜ r ≡ choice wd t (across q st (now (s .entry))) ⌝ }
 {
     if wd < 6 {
-        return l;
+        return 1;
     }
-    let a = read3_16(s, q, st, l);
+    let l3 = read3_16(s, q, st, l);
     if wd < 8 {
-        return a;
+        return line::choose(6, t, l3);
     }
-    let b = read4_16(s, q, st, a);
+    let l4 = read4_16(s, q, st, l3);
     if wd < 16 {
-        return b;
+        return line::choose(8, t, l4);
     }
-    read7_16(s, q, st, b)
+    line::choose(16, t, read7_16(s, q, st, l4))
 }
 
 fn store1_16(s: &mut [u16], q: usize, st: usize, p0: u16, q0: u16)
@@ -410,12 +421,18 @@ fn narrow_16(s: &mut [u16], q: usize, st: usize, t: Bounds, l: Line)
     requires { ⌜ (2 * st ≤ q) × (q + st < length (now s)) × (0 < t .half) × (t .half ≤ 2048) × Under (2 * t .half) 2 (of l) ⌝ }
     ensures { λ _. ⌜ now (s .exit) ≡ stored st q (narrow (t .half) (hevMask t (of l)) (of l)) (cond (hevMask t (of l)) 1 2) (now (s .entry)) ⌝ }
 {
-    let hev = line::hev_mask(t, l);
-    let r = line::narrow4(t.half, hev, l);
-    if hev {
+    if line::hev_mask(t, l) {
+        let r = line::narrow4(t.half, true, l);
         store1_16(s, q, st, r.p0, r.q0);
         return;
     }
+    let f = line::plain4(t.half, l);
+    if f.known {
+        let r = f.line;
+        store2_16(s, q, st, r.p1, r.p0, r.q0, r.q1);
+        return;
+    }
+    let r = line::narrow4(t.half, false, l);
     store2_16(s, q, st, r.p1, r.p0, r.q0, r.q1);
 }
 
@@ -463,12 +480,11 @@ fn line_16(s: &mut [u16], q: usize, st: usize, wd: u32, t: Bounds)
     requires { ⌜ Width wd × (reads wd * st ≤ q) × (q + (reads wd - 1) * st < length (now s)) × (0 < t .half) × (t .half ≤ 2048) × Under (2 * t .half) (reads wd) (across q st (now s)) ⌝ }
     ensures { λ _. ⌜ now (s .exit) ≡ lineAt st (rule wd t) q (now (s .entry)) ⌝ }
 {
-    let a = read2_16(s, q, st);
-    if !line::filter_mask4(t, a) {
+    let l = read2_16(s, q, st);
+    if !line::filter_mask4(t, l) {
         return;
     }
-    let l = read_16(s, q, st, wd, a);
-    let n = line::choose(wd, t, l);
+    let n = choose_16(s, q, st, wd, t, l);
     if n == 0 {
         return;
     }
@@ -476,15 +492,18 @@ fn line_16(s: &mut [u16], q: usize, st: usize, wd: u32, t: Bounds)
         narrow_16(s, q, st, t, l);
         return;
     }
+    let l3 = read3_16(s, q, st, l);
     if n == 2 {
-        wide6_16(s, q, st, l);
+        wide6_16(s, q, st, l3);
         return;
     }
+    let l4 = read4_16(s, q, st, l3);
     if n == 3 {
-        wide8_16(s, q, st, l);
+        wide8_16(s, q, st, l4);
         return;
     }
-    wide16_16(s, q, st, l);
+    let l7 = read7_16(s, q, st, l4);
+    wide16_16(s, q, st, l7);
 }
 
 pub fn piece_16(s: &mut [u16], q: usize, sa: usize, st: usize, wd: u32, t: Bounds)
