@@ -1,7 +1,7 @@
 -- What a block that passes a test has, from the comparisons that the test is made of.
-use mathlib.Core.Bool.{true, false, not, _&&_, _||_}
+use mathlib.Core.Bool.{Bool, true, false, cond, not, _&&_, _||_, false≢true}
 use mathlib.Core.List.{List}
-use mathlib.Core.Path.{_≡_, refl, sym}
+use mathlib.Core.Path.{_≡_, refl, sym, ap, _∙_}
 use Prim.Native.Nat.{ℕ, _%_, _<_, _≤_}
 use native.Mathlib.Omega.{arith}
 use lib.Dec.{eqb, ltb}
@@ -16,8 +16,8 @@ use Rattle.units.specs.Layout.{layoutOk, hasChroma}
 use Rattle.units.specs.Frame.{frameOk}
 use Rattle.units.proofs.Tests.{reflects-frame}
 use Rattle.block.specs.declared.Block.{Block}
-use Rattle.block.specs.Block.{w4, h4, wide, high, Sides}
-use Rattle.block.specs.Tests.{shapeBad, codeBad, placeBad, contextBad}
+use Rattle.block.specs.Block.{w4, h4, wide, high, Lent, Sides}
+use Rattle.block.specs.Tests.{shapeBad, codeBad, placeBad, txBad, maxTxBad, refBad, blockBad, contextBad, lumaContextsBad, chromaContextsBad, contextsBad, lengthBad, number}
 
 module _ (b : Block) where
   pub shaped : shapeBad b ≡ false → ((1 ≤ b .width .0) × (b .width .0 ≤ 16384)) × ((1 ≤ b .height .0) × (b .height .0 ≤ 16384))
@@ -44,6 +44,61 @@ module _ (b : Block) where
 
   pub sides : shapeBad b ≡ false → codeBad b ≡ false → Sides b
   sides e f = let s = shaped e in (s .0 .1, s .1 .1, coded f .0)
+
+  pub unblocked : blockBad b ≡ false → (codeBad b ≡ false) × (placeBad b ≡ false)
+  unblocked e =
+      let t = txBad b || (maxTxBad b || refBad b) in
+      let p = or-off (codeBad b) (placeBad b || t) e in
+      (p .0, or-off (placeBad b) t (p .1) .0)
+
+-- ---- the number, with the tests of each asked at once
+
+five : (p q r s t : Bool) (n : ℕ) → cond (p || (q || (r || (s || t)))) 5 n ≡ cond p 5 (cond q 5 (cond r 5 (cond s 5 (cond t 5 n))))
+five true q r s t n = refl
+five false true r s t n = refl
+five false false true s t n = refl
+five false false false true t n = refl
+five false false false false t n = refl
+
+six : (p q : Bool) (n : ℕ) → cond (p || q) 6 n ≡ cond p 6 (cond q 6 n)
+six true q n = refl
+six false q n = refl
+
+module _ (b : Block) (stride : ℕ) (m : Lent) where
+  abbrev contexts : Bool
+  contexts = contextsBad b (m .above) (m .left) (m .above-uv) (m .left-uv)
+
+  abbrev lengths : Bool
+  lengths = lengthBad b stride (length (m .levels)) (length (m .masks))
+
+  numbered : number b stride m ≡ cond (shapeBad b) 4 (cond (blockBad b) 5 (cond contexts 6 (cond lengths 7 0)))
+  unfolding number
+  numbered =
+      ap (λ (n : ℕ). cond (shapeBad b) 4 n)
+      (sym (five (codeBad b) (placeBad b) (txBad b) (maxTxBad b) (refBad b) _)
+      ∙ ap (λ (n : ℕ). cond (blockBad b) 5 n) (sym (six (lumaContextsBad b (m .above) (m .left)) (chromaContextsBad b (m .above-uv) (m .left-uv)) _)))
+
+  pub is-4 : shapeBad b ≡ true → 4 ≡ number b stride m
+  is-4 s = sym (numbered ∙ rw s refl)
+
+  pub is-5 : shapeBad b ≡ false → blockBad b ≡ true → 5 ≡ number b stride m
+  is-5 s f = sym (numbered ∙ rw (s, f) refl)
+
+  pub is-6 : shapeBad b ≡ false → blockBad b ≡ false → contexts ≡ true → 6 ≡ number b stride m
+  is-6 s f e = sym (numbered ∙ rw (s, f, e) refl)
+
+  pub is-7 : shapeBad b ≡ false → blockBad b ≡ false → contexts ≡ false → lengths ≡ true → 7 ≡ number b stride m
+  is-7 s f e l = sym (numbered ∙ rw (s, f, e, l) refl)
+
+  pub is-0 : shapeBad b ≡ false → blockBad b ≡ false → contexts ≡ false → lengths ≡ false → 0 ≡ number b stride m
+  is-0 s f e l = sym (numbered ∙ rw (s, f, e, l) refl)
+
+-- the visible sizes
+pub seen-as : (w h w′ h′ : ℕ) (r : Bool) → r ≡ (ltb 0 w && ltb 0 h) → w ≡ w′ → h ≡ h′ → r ≡ (ltb 0 w′ && ltb 0 h′)
+seen-as w h w′ h′ r e p q = e ∙ rw (p, q) refl
+
+pub and-on : (x y : Bool) {z : Bool} → x ≡ true → y ≡ z → (x && y) ≡ z
+and-on x y e f = rw e f
 
 -- the chroma unit of a place up to the frame's end
 pub chroma-unit-le : (u n ss : ℕ) → u ≤ n → ss ≤ 1 → chromaUnit ss u ≤ chromaUnits ss n

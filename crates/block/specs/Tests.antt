@@ -5,8 +5,9 @@
 --   lumaTxBad, chromaTxBad, txBad     5: a transform wider or higher than the block in its plane
 --   maxTxBad              5: of an inter block, neither the largest transform nor 4x4
 --   refBad                5: of an inter block, a reference above 7
+--   blockBad              any of 5
 --   contextBad n most c   the context c is shorter than n, or has a value above most among them
---   lumaContextsBad, chromaContextsBad     6, in a plane in which units are recorded
+--   lumaContextsBad, chromaContextsBad, contextsBad     6, in a plane in which units are recorded, and in either
 --   lengthBad             7: levels, their stride, masks
 --   number                the number of the first of them
 use mathlib.Core.Bool.{Bool, cond, not, _&&_, _||_}
@@ -49,6 +50,9 @@ maxTxBad b = b .inter && (not (eqb (b .tx) (Max_Tx_Size_Rect (b .size))) && not 
 abbrev pub refBad : Block → Bool
 refBad b = b .inter && ltb 7 (b .reference)
 
+abbrev pub blockBad : Block → Bool
+blockBad b = codeBad b || (placeBad b || (txBad b || (maxTxBad b || refBad b)))
+
 abbrev pub contextBad : ℕ → ℕ → List ℕ → Bool
 contextBad n most c = ltb (length c) n || anyBelow n (λ i. ltb most (getD c i 0))
 
@@ -57,6 +61,9 @@ lumaContextsBad b a l = seesLuma b && (contextBad (bw4 b) 2 a || contextBad (bh4
 
 abbrev pub chromaContextsBad : Block → List ℕ → List ℕ → Bool
 chromaContextsBad b a l = seesChroma b && (contextBad (cbw4 b) 1 a || contextBad (cbh4 b) 1 l)
+
+abbrev pub contextsBad : Block → List ℕ → List ℕ → List ℕ → List ℕ → Bool
+contextsBad b a l a-uv l-uv = lumaContextsBad b a l || chromaContextsBad b a-uv l-uv
 
 abbrev pub lengthBad : Block → ℕ → ℕ → ℕ → Bool
 lengthBad b stride levels masks = not (levelsOk levels stride (w4 b) (h4 b)) || not (masksOk masks (w4 b) (h4 b))

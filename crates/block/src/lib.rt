@@ -14,8 +14,10 @@ use units::luma_units;
 use units::sizes::block_high;
 use units::sizes::block_wide;
 ghost use mathlib.Core.Path.{_≡_};
+ghost use mathlib.Core.Bool.{_&&_};
 ghost use Prim.Native.Nat.{_≤_};
-ghost use Rattle.block.specs.Block.{w4, h4, bw4, bh4, chromaSide, cbw4, cbh4, seesLuma, seesChroma, Sides};
+ghost use lib.Dec.{ltb};
+ghost use Rattle.block.specs.Block.{w4, h4, bw4, bh4, chromaSide, cbw4, cbh4, Sides};
 
 // The frame, the block's place, codes and chroma pair; of an intra block skip, reference and mode are 0.
 pub struct Block {
@@ -87,16 +89,9 @@ pub fn chroma_high(b: Block) -> ChromaUnit
     )
 }
 
-pub fn sees_luma(b: Block) -> bool
-    requires { ⌜ Sides b × (b .x .0 ≤ w4 b) × (b .y .0 ≤ h4 b) ⌝ }
-    ensures { λ r. ⌜ r ≡ seesLuma b ⌝ }
+// Of w by h visible units there are some.
+pub fn seen(w: usize, h: usize) -> bool
+    ensures { λ r. ⌜ r ≡ (ltb 0 w && ltb 0 h) ⌝ }
 {
-    (0 < luma_wide(b).0) & (0 < luma_high(b).0)
-}
-
-pub fn sees_chroma(b: Block) -> bool
-    requires { ⌜ Sides b × (b .x .0 ≤ w4 b) × (b .y .0 ≤ h4 b) ⌝ }
-    ensures { λ r. ⌜ r ≡ seesChroma b ⌝ }
-{
-    b.chroma & ((0 < chroma_wide(b).0) & (0 < chroma_high(b).0))
+    (0 < w) & (0 < h)
 }

@@ -1,13 +1,8 @@
 // The number of a block: of the tests, in their order, the first that it fails.
-use super::tests::chroma_contexts_bad;
-use super::tests::code_bad;
+use super::tests::block_bad;
+use super::tests::contexts_bad;
 use super::tests::length_bad;
-use super::tests::luma_contexts_bad;
-use super::tests::max_tx_bad;
-use super::tests::place_bad;
-use super::tests::reference_bad;
 use super::tests::shape_bad;
-use super::tests::tx_bad;
 use crate::Block;
 use units::numbers::BLOCK;
 use units::numbers::CONTEXT;
@@ -33,25 +28,10 @@ pub fn number(
     if shape_bad(b) {
         return SHAPE;
     }
-    if code_bad(b) {
+    if block_bad(b) {
         return BLOCK;
     }
-    if place_bad(b) {
-        return BLOCK;
-    }
-    if tx_bad(b) {
-        return BLOCK;
-    }
-    if max_tx_bad(b) {
-        return BLOCK;
-    }
-    if reference_bad(b) {
-        return BLOCK;
-    }
-    if luma_contexts_bad(b, above, left) {
-        return CONTEXT;
-    }
-    if chroma_contexts_bad(b, above_uv, left_uv) {
+    if contexts_bad(b, above, left, above_uv, left_uv) {
         return CONTEXT;
     }
     if length_bad(b, stride, levels.len(), masks.len()) {

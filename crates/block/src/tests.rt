@@ -4,8 +4,8 @@ use crate::chroma_high;
 use crate::chroma_wide;
 use crate::luma_high;
 use crate::luma_wide;
-use crate::sees_chroma;
-use crate::sees_luma;
+use crate::seen;
+use units::LumaUnit;
 use units::chroma_units;
 use units::frame::frame_ok;
 use units::layout::has_chroma;
@@ -25,8 +25,8 @@ use units::sizes::max_tx_rect;
 ghost use mathlib.Core.Path.{_≡_};
 ghost use mathlib.Core.Bool.{true};
 ghost use Prim.Native.Nat.{_<_, _≤_};
-ghost use Rattle.block.specs.Block.{w4, h4, Sides};
-ghost use Rattle.block.specs.Tests.{shapeBad, codeBad, placeBad, lumaTxBad, chromaTxBad, txBad, maxTxBad, refBad, contextBad, lumaContextsBad, chromaContextsBad, lengthBad};
+ghost use Rattle.block.specs.Block.{w4, h4, wide, high, Sides};
+ghost use Rattle.block.specs.Tests.{shapeBad, codeBad, placeBad, lumaTxBad, chromaTxBad, txBad, maxTxBad, refBad, blockBad, contextBad, lumaContextsBad, chromaContextsBad, contextsBad, lengthBad};
 
 pub fn shape_bad(b: Block) -> bool
     ensures { λ r. ⌜ r ≡ shapeBad b ⌝ }
@@ -34,59 +34,70 @@ pub fn shape_bad(b: Block) -> bool
     (!layout_ok(b.layout) | !frame_ok(b.width, b.height)) | (b.chroma & !has_chroma(b.layout))
 }
 
-pub fn code_bad(b: Block) -> bool
+fn code_bad(b: Block) -> bool
     ensures { λ r. ⌜ r ≡ codeBad b ⌝ }
 {
     ((21 < b.size) | (18 < b.tx)) | (b.chroma & (18 < b.uvtx))
 }
 
-pub fn place_bad(b: Block) -> bool
-    requires { ⌜ Sides b ⌝ }
+// Here and below w and h are the block's sides.
+fn place_bad(b: Block, w: LumaUnit, h: LumaUnit) -> bool
+    requires { ⌜ Sides b × (w .0 ≡ wide b) × (h .0 ≡ high b) ⌝ }
     ensures { λ r. ⌜ r ≡ placeBad b ⌝ }
 {
-    let w = block_wide(b.size).0;
-    let h = block_high(b.size).0;
-    let odd = (b.x.0 % w != 0) | (b.y.0 % h != 0);
+    let odd = (b.x.0 % w.0 != 0) | (b.y.0 % h.0 != 0);
     odd | ((luma_units(b.width).0 < b.x.0) | (luma_units(b.height).0 < b.y.0))
 }
 
-fn luma_tx_bad(b: Block) -> bool
-    requires { ⌜ (b .size < 22) × (b .tx < 19) ⌝ }
+fn luma_tx_bad(b: Block, w: LumaUnit, h: LumaUnit) -> bool
+    requires { ⌜ (b .tx < 19) × (w .0 ≡ wide b) × (h .0 ≡ high b) ⌝ }
     ensures { λ r. ⌜ r ≡ lumaTxBad b ⌝ }
 {
-    (block_wide(b.size).0 < luma_tx_wide(b.tx).0) | (block_high(b.size).0 < luma_tx_high(b.tx).0)
+    (w.0 < luma_tx_wide(b.tx).0) | (h.0 < luma_tx_high(b.tx).0)
 }
 
-fn chroma_tx_bad(b: Block) -> bool
-    requires { ⌜ (b .size < 22) × (b .chroma ≡ true → b .uvtx < 19) ⌝ }
+fn chroma_tx_bad(b: Block, w: LumaUnit, h: LumaUnit) -> bool
+    requires { ⌜ (b .size < 22) × (b .chroma ≡ true → b .uvtx < 19) × (w .0 ≡ wide b) × (h .0 ≡ high b) ⌝ }
     ensures { λ r. ⌜ r ≡ chromaTxBad b ⌝ }
 {
     if !b.chroma {
         return false;
     }
-    let w = chroma_units(block_wide(b.size), ss_hor(b.layout)).0;
-    let h = chroma_units(block_high(b.size), ss_ver(b.layout)).0;
-    (w < chroma_tx_wide(b.uvtx).0) | (h < chroma_tx_high(b.uvtx).0)
+    let cw = chroma_units(w, ss_hor(b.layout)).0;
+    let ch = chroma_units(h, ss_ver(b.layout)).0;
+    (cw < chroma_tx_wide(b.uvtx).0) | (ch < chroma_tx_high(b.uvtx).0)
 }
 
-pub fn tx_bad(b: Block) -> bool
-    requires { ⌜ (b .size < 22) × (b .tx < 19) × (b .chroma ≡ true → b .uvtx < 19) ⌝ }
+fn tx_bad(b: Block, w: LumaUnit, h: LumaUnit) -> bool
+    requires { ⌜ ((b .size < 22) × (b .tx < 19) × (b .chroma ≡ true → b .uvtx < 19)) × (w .0 ≡ wide b) × (h .0 ≡ high b) ⌝ }
     ensures { λ r. ⌜ r ≡ txBad b ⌝ }
 {
-    luma_tx_bad(b) | chroma_tx_bad(b)
+    luma_tx_bad(b, w, h) | chroma_tx_bad(b, w, h)
 }
 
-pub fn max_tx_bad(b: Block) -> bool
+fn max_tx_bad(b: Block) -> bool
     requires { ⌜ b .size < 22 ⌝ }
     ensures { λ r. ⌜ r ≡ maxTxBad b ⌝ }
 {
     b.inter & ((b.tx != max_tx_rect(b.size)) & (b.tx != 0))
 }
 
-pub fn reference_bad(b: Block) -> bool
+fn reference_bad(b: Block) -> bool
     ensures { λ r. ⌜ r ≡ refBad b ⌝ }
 {
     b.inter & (7 < b.reference)
+}
+
+pub fn block_bad(b: Block) -> bool
+    requires { ⌜ (b .width .0 ≤ 16384) × (b .height .0 ≤ 16384) ⌝ }
+    ensures { λ r. ⌜ r ≡ blockBad b ⌝ }
+{
+    if code_bad(b) {
+        return true;
+    }
+    let w = block_wide(b.size);
+    let h = block_high(b.size);
+    place_bad(b, w, h) | (tx_bad(b, w, h) | (max_tx_bad(b) | reference_bad(b)))
 }
 
 pub fn context_bad(ctx: &[u8], n: usize, most: u8) -> bool
@@ -103,24 +114,38 @@ pub fn context_bad(ctx: &[u8], n: usize, most: u8) -> bool
     false
 }
 
-pub fn luma_contexts_bad(b: Block, above: &[u8], left: &[u8]) -> bool
+fn luma_contexts_bad(b: Block, above: &[u8], left: &[u8]) -> bool
     requires { ⌜ Sides b × (b .x .0 ≤ w4 b) × (b .y .0 ≤ h4 b) ⌝ }
     ensures { λ r. ⌜ r ≡ lumaContextsBad b (now (above .entry)) (now (left .entry)) ⌝ }
 {
-    if !sees_luma(b) {
+    let w = luma_wide(b).0;
+    let h = luma_high(b).0;
+    if !seen(w, h) {
         return false;
     }
-    context_bad(above, luma_wide(b).0, 2) | context_bad(left, luma_high(b).0, 2)
+    context_bad(above, w, 2) | context_bad(left, h, 2)
 }
 
-pub fn chroma_contexts_bad(b: Block, above: &[u8], left: &[u8]) -> bool
+fn chroma_contexts_bad(b: Block, above: &[u8], left: &[u8]) -> bool
     requires { ⌜ Sides b × (b .x .0 ≤ w4 b) × (b .y .0 ≤ h4 b) ⌝ }
     ensures { λ r. ⌜ r ≡ chromaContextsBad b (now (above .entry)) (now (left .entry)) ⌝ }
 {
-    if !sees_chroma(b) {
+    if !b.chroma {
         return false;
     }
-    context_bad(above, chroma_wide(b).0, 1) | context_bad(left, chroma_high(b).0, 1)
+    let w = chroma_wide(b).0;
+    let h = chroma_high(b).0;
+    if !seen(w, h) {
+        return false;
+    }
+    context_bad(above, w, 1) | context_bad(left, h, 1)
+}
+
+pub fn contexts_bad(b: Block, above: &[u8], left: &[u8], above_uv: &[u8], left_uv: &[u8]) -> bool
+    requires { ⌜ Sides b × (b .x .0 ≤ w4 b) × (b .y .0 ≤ h4 b) ⌝ }
+    ensures { λ r. ⌜ r ≡ contextsBad b (now (above .entry)) (now (left .entry)) (now («above_uv» .entry)) (now («left_uv» .entry)) ⌝ }
+{
+    luma_contexts_bad(b, above, left) | chroma_contexts_bad(b, above_uv, left_uv)
 }
 
 pub fn length_bad(b: Block, stride: usize, levels: usize, masks: usize) -> bool

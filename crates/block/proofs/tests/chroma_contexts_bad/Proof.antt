@@ -1,39 +1,56 @@
 -- `chroma_contexts_bad` meets its contract: its calls are the definition's tests.
 use mathlib.Core.Path.{refl, sym, _∙_}
 use borrow.Author.Tests.{not-true, not-false}
+use Rattle.block.specs.Block.{cbw4, cbh4}
+use Rattle.block.proofs.Passed.{seen-as, and-on}
 use borrow.Author.Needs.{needs}
 use Rattle.block.proofs.tests.chroma_contexts_bad.Statement.{statement}
 use Rattle.block.proofs.tests.chroma_contexts_bad.Tie as tie
 
-sees-chroma-requires : tie.Need-sees-chroma-requires
-sees-chroma-requires c κs = search needs
-
 returns : tie.Need-returns
-returns c = rw (sym (c .before .sees-chroma .ensures) ∙ not-true _ (c .if1 .taken)) refl
+returns c = rw (not-true (c .before .before .before .before .args .b .chroma) (c .if1 .taken)) refl
 
 chroma-wide-requires : tie.Need-chroma-wide-requires
 chroma-wide-requires c κs = search needs
 
-context-bad-requires : tie.Need-context-bad-requires
-context-bad-requires c κs = search needs
-
 chroma-high-requires : tie.Need-chroma-high-requires
 chroma-high-requires c κs = search needs
+
+seen-requires : tie.Need-seen-requires
+seen-requires c κs = search needs
+
+returns-2 : tie.Need-returns-2
+returns-2 c =
+    let c₄ = c .before .before .before .before in
+    let b = c₄ .before .before .before .before .args .b in
+    let s = seen-as _ _ (cbw4 b) (cbh4 b) _ (c .before .seen .ensures) (c .before .before .before .chroma-wide .ensures) (c .before .before .chroma-high .ensures) in
+    rw (and-on (b .chroma) _ (not-false (b .chroma) (c₄ .if1 .left)) (sym s ∙ not-true _ (c .if2 .taken))) refl
+
+context-bad-requires : tie.Need-context-bad-requires
+context-bad-requires c κs = search needs
 
 context-bad-requires-2 : tie.Need-context-bad-requires-2
 context-bad-requires-2 c κs = search needs
 
-returns-2 : tie.Need-returns-2
-returns-2 c = rw (sym (c .before .before .before .before .before .sees-chroma .ensures) ∙ not-false _ (c .before .before .before .before .if1 .left), c .before .before .context-bad .ensures, c .context-bad2 .ensures, c .before .before .before .chroma-wide .ensures, c .before .chroma-high .ensures) refl
+returns-3 : tie.Need-returns-3
+returns-3 c =
+    let c₃ = c .before .before .before in
+    let c₆ = c₃ .before .before .before in
+    let b = c₆ .before .before .before .before .args .b in
+    let w = c₃ .before .before .chroma-wide .ensures in
+    let h = c₃ .before .chroma-high .ensures in
+    let s = seen-as _ _ (cbw4 b) (cbh4 b) _ (c₃ .seen .ensures) w h in
+    rw (and-on (b .chroma) _ (not-false (b .chroma) (c₆ .if1 .left)) (sym s ∙ not-false _ (c .before .before .if2 .left)), c .before .context-bad .ensures, c .context-bad2 .ensures, w, h) refl
 
 pub chroma-contexts-bad-spec : {M : Type 1} → statement M
 chroma-contexts-bad-spec =
     tie.close
     (tie.spec
-    sees-chroma-requires
     returns
     chroma-wide-requires
-    context-bad-requires
     chroma-high-requires
+    seen-requires
+    returns-2
+    context-bad-requires
     context-bad-requires-2
-    returns-2)
+    returns-3)
