@@ -1,9 +1,7 @@
 // The level bytes of a block's visible units.
 use block::Block;
-use block::chroma_high;
-use block::chroma_wide;
-use block::luma_high;
-use block::luma_wide;
+use units::ChromaUnit;
+use units::LumaUnit;
 use units::chroma_unit;
 use units::layout::ss_hor;
 use units::layout::ss_ver;
@@ -13,7 +11,7 @@ ghost use mathlib.Core.Path.{_≡_};
 ghost use mathlib.Core.Bool.{true};
 ghost use Prim.Native.Nat.{ℕ, _+_, _*_, _<_, _≤_};
 ghost use lib.ListN.{length};
-ghost use Rattle.block.specs.Block.{w4, h4, seesLuma, seesChroma};
+ghost use Rattle.block.specs.Block.{w4, h4, bw4, bh4, cbw4, cbh4, seesLuma, seesChroma};
 ghost use Rattle.record.specs.Record.{valueOf, fillRow, fillLevels, lumaLevels, chromaLevels, Sound};
 
 fn value(values: &[u8; 64], kind: usize, b: Block) -> u8
@@ -43,20 +41,33 @@ fn fill_levels(levels: &mut [u8], at: usize, stride: usize, w: usize, h: usize, 
     }
 }
 
-pub fn luma_levels(levels: &mut [u8], stride: usize, values: &[u8; 64], b: Block)
-    requires { ⌜ Sound b × (seesLuma b ≡ true) × (w4 b ≤ stride) × (4 * stride * h4 b ≤ length (now levels)) ⌝ }
+// w by h units are visible.
+pub fn luma_levels(
+    levels: &mut [u8],
+    stride: usize,
+    values: &[u8; 64],
+    b: Block,
+    w: LumaUnit,
+    h: LumaUnit,
+)
+    requires { ⌜ Sound b × (seesLuma b ≡ true) × (w4 b ≤ stride) × (4 * stride * h4 b ≤ length (now levels)) × (w .0 ≡ bw4 b) × (h .0 ≡ bh4 b) ⌝ }
     ensures { λ _. ⌜ now (levels .exit) ≡ lumaLevels b stride (now (values .entry)) (now (levels .entry)) ⌝ }
 {
     let at = luma_level_at(stride, b.x, b.y, 0);
     let u = value(values, 0, b);
     let v = value(values, 1, b);
-    let bw4 = luma_wide(b);
-    let bh4 = luma_high(b);
-    fill_levels(levels, at, stride, bw4.0, bh4.0, u, v);
+    fill_levels(levels, at, stride, w.0, h.0, u, v);
 }
 
-pub fn chroma_levels(levels: &mut [u8], stride: usize, values: &[u8; 64], b: Block)
-    requires { ⌜ Sound b × (seesChroma b ≡ true) × (w4 b ≤ stride) × (4 * stride * h4 b ≤ length (now levels)) ⌝ }
+pub fn chroma_levels(
+    levels: &mut [u8],
+    stride: usize,
+    values: &[u8; 64],
+    b: Block,
+    w: ChromaUnit,
+    h: ChromaUnit,
+)
+    requires { ⌜ Sound b × (seesChroma b ≡ true) × (w4 b ≤ stride) × (4 * stride * h4 b ≤ length (now levels)) × (w .0 ≡ cbw4 b) × (h .0 ≡ cbh4 b) ⌝ }
     ensures { λ _. ⌜ now (levels .exit) ≡ chromaLevels b stride (now (values .entry)) (now (levels .entry)) ⌝ }
 {
     let cx = chroma_unit(b.x, ss_hor(b.layout));
@@ -64,7 +75,5 @@ pub fn chroma_levels(levels: &mut [u8], stride: usize, values: &[u8; 64], b: Blo
     let at = chroma_level_at(stride, cx, cy, 2);
     let u = value(values, 2, b);
     let v = value(values, 3, b);
-    let cbw4 = chroma_wide(b);
-    let cbh4 = chroma_high(b);
-    fill_levels(levels, at, stride, cbw4.0, cbh4.0, u, v);
+    fill_levels(levels, at, stride, w.0, h.0, u, v);
 }

@@ -3,9 +3,12 @@ mod levels;
 mod masks;
 
 use block::Block;
+use block::chroma_high;
+use block::chroma_wide;
+use block::luma_high;
+use block::luma_wide;
 use block::number::number;
-use block::sees_chroma;
-use block::sees_luma;
+use block::seen;
 use levels::chroma_levels;
 use levels::luma_levels;
 use masks::chroma_masks;
@@ -38,11 +41,13 @@ fn intra_luma(
     ensures above { λ _. ⌜ now (above .exit) ≡ intraAbove b (now (above .entry)) ⌝ }
     ensures left { λ _. ⌜ now (left .exit) ≡ intraLeft b (now (left .entry)) ⌝ }
 {
-    if !sees_luma(b) {
+    let w = luma_wide(b);
+    let h = luma_high(b);
+    if !seen(w.0, h.0) {
         return;
     }
-    luma_levels(levels, stride, values, b);
-    intra_masks(masks, b, above, left);
+    luma_levels(levels, stride, values, b, w, h);
+    intra_masks(masks, b, w, h, above, left);
 }
 
 fn inter_luma(
@@ -61,11 +66,13 @@ fn inter_luma(
     ensures above { λ _. ⌜ now (above .exit) ≡ interAbove b (now («tx_masks» .entry)) (now (above .entry)) ⌝ }
     ensures left { λ _. ⌜ now (left .exit) ≡ interLeft b (now («tx_masks» .entry)) (now (left .entry)) ⌝ }
 {
-    if !sees_luma(b) {
+    let w = luma_wide(b);
+    let h = luma_high(b);
+    if !seen(w.0, h.0) {
         return;
     }
-    luma_levels(levels, stride, values, b);
-    inter_masks(masks, b, tx_masks, above, left);
+    luma_levels(levels, stride, values, b, w, h);
+    inter_masks(masks, b, w, h, tx_masks, above, left);
 }
 
 fn chroma_pair(
@@ -83,11 +90,16 @@ fn chroma_pair(
     ensures above { λ _. ⌜ now (above .exit) ≡ chromaAbove b (now (above .entry)) ⌝ }
     ensures left { λ _. ⌜ now (left .exit) ≡ chromaLeft b (now (left .entry)) ⌝ }
 {
-    if !sees_chroma(b) {
+    if !b.chroma {
         return;
     }
-    chroma_levels(levels, stride, values, b);
-    chroma_masks(masks, b, above, left);
+    let w = chroma_wide(b);
+    let h = chroma_high(b);
+    if !seen(w.0, h.0) {
+        return;
+    }
+    chroma_levels(levels, stride, values, b, w, h);
+    chroma_masks(masks, b, w, h, above, left);
 }
 
 pub fn record_intra(

@@ -1,12 +1,9 @@
 // The masks of a block's record, and its contexts.
 use block::Block;
-use block::chroma_high;
-use block::chroma_wide;
-use block::luma_high;
-use block::luma_wide;
 use mask_edges::mask_edges_chroma;
 use mask_edges::mask_edges_inter;
 use mask_edges::mask_edges_intra;
+use units::ChromaUnit;
 use units::LumaUnit;
 use units::chroma_unit;
 use units::frame::record_of;
@@ -28,8 +25,16 @@ fn record_at(b: Block) -> usize
     640 * record_of(luma_units(b.width), b.x, b.y)
 }
 
-pub fn intra_masks(masks: &mut [u16], b: Block, above: &mut [u8], left: &mut [u8])
-    requires { ⌜ Fitting b × (seesLuma b ≡ true) × (640 * frameRecords (w4 b) (h4 b) ≤ length (now masks)) × (bw4 b ≤ length (now above)) × (bh4 b ≤ length (now left)) ⌝ }
+// w by h units are visible.
+pub fn intra_masks(
+    masks: &mut [u16],
+    b: Block,
+    w: LumaUnit,
+    h: LumaUnit,
+    above: &mut [u8],
+    left: &mut [u8],
+)
+    requires { ⌜ Fitting b × (seesLuma b ≡ true) × (640 * frameRecords (w4 b) (h4 b) ≤ length (now masks)) × (bw4 b ≤ length (now above)) × (bh4 b ≤ length (now left)) × (w .0 ≡ bw4 b) × (h .0 ≡ bh4 b) ⌝ }
     ensures masks { λ _. ⌜ now (masks .exit) ≡ intraMasks b (now (above .entry)) (now (left .entry)) (now (masks .entry)) ⌝ }
     ensures above { λ _. ⌜ now (above .exit) ≡ intraAbove b (now (above .entry)) ⌝ }
     ensures left { λ _. ⌜ now (left .exit) ≡ intraLeft b (now (left .entry)) ⌝ }
@@ -38,19 +43,19 @@ pub fn intra_masks(masks: &mut [u16], b: Block, above: &mut [u8], left: &mut [u8
     let end = at + 640;
     let by4 = LumaUnit(b.y.0 % 32);
     let bx4 = LumaUnit(b.x.0 % 32);
-    let bw4 = luma_wide(b);
-    let bh4 = luma_high(b);
-    mask_edges_intra(&mut masks[at..end], by4, bx4, bw4, bh4, b.tx, above, left);
+    mask_edges_intra(&mut masks[at..end], by4, bx4, w, h, b.tx, above, left);
 }
 
 pub fn inter_masks(
     masks: &mut [u16],
     b: Block,
+    w: LumaUnit,
+    h: LumaUnit,
     tx_masks: &[u16; 2],
     above: &mut [u8],
     left: &mut [u8],
 )
-    requires { ⌜ Fitting b × (b .inter ≡ true) × (seesLuma b ≡ true) × (640 * frameRecords (w4 b) (h4 b) ≤ length (now masks)) × (bw4 b ≤ length (now above)) × (bh4 b ≤ length (now left)) ⌝ }
+    requires { ⌜ Fitting b × (b .inter ≡ true) × (seesLuma b ≡ true) × (640 * frameRecords (w4 b) (h4 b) ≤ length (now masks)) × (bw4 b ≤ length (now above)) × (bh4 b ≤ length (now left)) × (w .0 ≡ bw4 b) × (h .0 ≡ bh4 b) ⌝ }
     ensures masks { λ _. ⌜ now (masks .exit) ≡ interMasks b (now («tx_masks» .entry)) (now (above .entry)) (now (left .entry)) (now (masks .entry)) ⌝ }
     ensures above { λ _. ⌜ now (above .exit) ≡ interAbove b (now («tx_masks» .entry)) (now (above .entry)) ⌝ }
     ensures left { λ _. ⌜ now (left .exit) ≡ interLeft b (now («tx_masks» .entry)) (now (left .entry)) ⌝ }
@@ -59,14 +64,12 @@ pub fn inter_masks(
     let end = at + 640;
     let by4 = LumaUnit(b.y.0 % 32);
     let bx4 = LumaUnit(b.x.0 % 32);
-    let bw4 = luma_wide(b);
-    let bh4 = luma_high(b);
     mask_edges_inter(
         &mut masks[at..end],
         by4,
         bx4,
-        bw4,
-        bh4,
+        w,
+        h,
         b.skip,
         b.tx,
         tx_masks,
@@ -75,8 +78,15 @@ pub fn inter_masks(
     );
 }
 
-pub fn chroma_masks(masks: &mut [u16], b: Block, above: &mut [u8], left: &mut [u8])
-    requires { ⌜ Fitting b × (seesChroma b ≡ true) × (640 * frameRecords (w4 b) (h4 b) ≤ length (now masks)) × (cbw4 b ≤ length (now above)) × (cbh4 b ≤ length (now left)) ⌝ }
+pub fn chroma_masks(
+    masks: &mut [u16],
+    b: Block,
+    w: ChromaUnit,
+    h: ChromaUnit,
+    above: &mut [u8],
+    left: &mut [u8],
+)
+    requires { ⌜ Fitting b × (seesChroma b ≡ true) × (640 * frameRecords (w4 b) (h4 b) ≤ length (now masks)) × (cbw4 b ≤ length (now above)) × (cbh4 b ≤ length (now left)) × (w .0 ≡ cbw4 b) × (h .0 ≡ cbh4 b) ⌝ }
     ensures masks { λ _. ⌜ now (masks .exit) ≡ chromaMasks b (now (above .entry)) (now (left .entry)) (now (masks .entry)) ⌝ }
     ensures above { λ _. ⌜ now (above .exit) ≡ chromaAbove b (now (above .entry)) ⌝ }
     ensures left { λ _. ⌜ now (left .exit) ≡ chromaLeft b (now (left .entry)) ⌝ }
@@ -87,14 +97,12 @@ pub fn chroma_masks(masks: &mut [u16], b: Block, above: &mut [u8], left: &mut [u
     let ver = ss_ver(b.layout);
     let cby4 = chroma_unit(LumaUnit(b.y.0 % 32), ver);
     let cbx4 = chroma_unit(LumaUnit(b.x.0 % 32), hor);
-    let cbw4 = chroma_wide(b);
-    let cbh4 = chroma_high(b);
     mask_edges_chroma(
         &mut masks[at..end],
         cby4,
         cbx4,
-        cbw4,
-        cbh4,
+        w,
+        h,
         b.skip,
         b.uvtx,
         above,

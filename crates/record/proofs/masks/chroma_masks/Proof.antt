@@ -1,23 +1,21 @@
 -- The block's chroma lies in its record, and what is made of the record is put back in its place.
 use denote.Ref.{now}
-use borrow.Author.Needs.{needs}
 use native.Mathlib.Omega.{arith}
 use mathlib.Core.Path.{refl, _∙_}
 use Rattle.units.proofs.Places.{ss-hor-le, ss-ver-le}
 use Rattle.record.proofs.Stores.{chroma-put}
 use Rattle.record.proofs.Rooms.{chroma-tx, chroma-seen, chroma-place, chroma-record-in}
+use borrow.Author.Needs.{needs}
 use Rattle.record.proofs.masks.chroma_masks.Statement.{statement}
 use Rattle.record.proofs.masks.chroma_masks.Tie as tie
 
 record-at-requires : tie.Need-record-at-requires
-record-at-requires c κs =
-    let c₃ = c .before .before .before in
-    (c₃ .pre .0 .sides, c₃ .pre .0 .x-in, c₃ .pre .0 .y-in)
+record-at-requires c κs = search needs
 
 add-end : tie.Need-add-end
 add-end c =
-    let c₄ = c .before .before .before .before in
-    omega (arith, c .record-at .ensures, chroma-record-in (c₄ .args .b) (c₄ .pre .0) (c₄ .pre .1), c₄ .pre .2)
+    let a = c .before .before .before .before in
+    omega (arith, c .record-at .ensures, chroma-record-in (a .args .b) (a .pre .0) (a .pre .1), a .pre .2)
 
 ss-hor-requires : tie.Need-ss-hor-requires
 ss-hor-requires c κs = search needs
@@ -26,32 +24,18 @@ ss-ver-requires : tie.Need-ss-ver-requires
 ss-ver-requires c κs = search needs
 
 chroma-unit-requires : tie.Need-chroma-unit-requires
-chroma-unit-requires c κs =
-    let c₇ = c .before .before .before .before .before .before .before in
-    rw (c .before .ss-ver .ensures) (ss-ver-le (c₇ .args .b .layout))
+chroma-unit-requires c κs = rw (c .before .ss-ver .ensures) (ss-ver-le (c .before .before .before .before .before .before .before .args .b .layout))
 
 chroma-unit-requires-2 : tie.Need-chroma-unit-requires-2
 chroma-unit-requires-2 c κs =
     let c₃ = c .before .before .before in
-    let c₄ = c₃ .before in
-    let c₉ = c₄ .before .before .before .before .before in
-    omega (arith, c₄ .ss-hor .ensures, ss-hor-le (c₉ .args .b .layout), c₃ .ss-ver .ensures, ss-ver-le (c₉ .args .b .layout))
-
-chroma-wide-requires : tie.Need-chroma-wide-requires
-chroma-wide-requires c κs =
-    let c₁₀ = c .before .before .before .before .before .before .before .before .before .before in
-    (c₁₀ .pre .0 .sides, c₁₀ .pre .0 .x-in)
-
-chroma-high-requires : tie.Need-chroma-high-requires
-chroma-high-requires c κs =
-    let c₁₁ = c .before .before .before .before .before .before .before .before .before .before .before in
-    (c₁₁ .pre .0 .sides, c₁₁ .pre .0 .y-in)
+    let l = c .before .before .before .before .before .before .before .before .before .args .b .layout in
+    omega (arith, c₃ .before .ss-hor .ensures, ss-hor-le l, c₃ .ss-ver .ensures, ss-ver-le l)
 
 mul-mask-edges-chroma : tie.Need-mul-mask-edges-chroma
 mul-mask-edges-chroma c =
-    let c₈ = c .before .before .before .before .before .before .before .before in
-    let c₁₂ = c₈ .before .before .before .before in
-    omega (arith, c₈ .record-at .ensures, chroma-record-in (c₁₂ .args .b) (c₁₂ .pre .0) (c₁₂ .pre .1), c₁₂ .pre .2)
+    let a = c .before .before .before .before .before .before .before .before .before .before in
+    omega (arith, c .before .before .before .before .before .before .record-at .ensures, chroma-record-in (a .args .b) (a .pre .0) (a .pre .1), a .pre .2)
 
 sub-mask-edges-chroma : tie.Need-sub-mask-edges-chroma
 sub-mask-edges-chroma c = search needs
@@ -61,29 +45,27 @@ part-mask-edges-chroma-start c = search needs
 
 part-mask-edges-chroma-end : tie.Need-part-mask-edges-chroma-end
 part-mask-edges-chroma-end c =
-    let c₈ = c .before .before .before .before .before .before .before .before in
-    let c₁₂ = c₈ .before .before .before .before in
-    omega (arith, c₈ .record-at .ensures, chroma-record-in (c₁₂ .args .b) (c₁₂ .pre .0) (c₁₂ .pre .1), c₁₂ .pre .2)
+    let a = c .before .before .before .before .before .before .before .before .before .before in
+    omega (arith, c .before .before .before .before .before .before .record-at .ensures, chroma-record-in (a .args .b) (a .pre .0) (a .pre .1), a .pre .2)
 
 mask-edges-chroma-requires : tie.Need-mask-edges-chroma-requires
 mask-edges-chroma-requires c κs =
     let c₃ = c .before .before .before in
-    let c₄ = c₃ .before in
-    let c₅ = c₄ .before in
+    let c₅ = c₃ .before .before in
     let c₇ = c₅ .before .before in
-    let c₉ = c₇ .before .before in
-    let c₁₀ = c₉ .before in
-    let c₁₅ = c₁₀ .before .before .before .before .before in (
+    let c₈ = c₇ .before in
+    let a = c .before .before .before .before .before .before .before .before .before .before .before .before .before in
+    let p = a .pre in (
       record {
-        wide = rw (c₄ .chroma-wide .ensures, c₅ .chroma-unit2 .ensures, c₁₀ .ss-hor .ensures) (chroma-seen (c₁₅ .args .b) (c₁₅ .pre .0) (c₁₅ .pre .1) .0, chroma-place (c₁₅ .args .b) (c₁₅ .pre .0) (c₁₅ .pre .1) .0);
-        high = rw (c₃ .chroma-high .ensures, c₇ .chroma-unit .ensures, c₉ .ss-ver .ensures) (chroma-seen (c₁₅ .args .b) (c₁₅ .pre .0) (c₁₅ .pre .1) .1, chroma-place (c₁₅ .args .b) (c₁₅ .pre .0) (c₁₅ .pre .1) .1);
+        wide = rw (p .5, c₃ .chroma-unit2 .ensures, c₈ .ss-hor .ensures) (chroma-seen (a .args .b) (p .0) (p .1) .0, chroma-place (a .args .b) (p .0) (p .1) .0);
+        high = rw (p .6, c₅ .chroma-unit .ensures, c₇ .ss-ver .ensures) (chroma-seen (a .args .b) (p .0) (p .1) .1, chroma-place (a .args .b) (p .0) (p .1) .1);
         record-words = omega (arith, c .before .before .mask-edges-chroma-arg .given);
-        above-units = omega (arith, c₄ .chroma-wide .ensures, c₁₅ .pre .3);
-        left-units = omega (arith, c₃ .chroma-high .ensures, c₁₅ .pre .4);
+        above-units = omega (arith, p .5, p .3);
+        left-units = omega (arith, p .6, p .4);
       },
-      chroma-tx (c₁₅ .args .b) (c₁₅ .pre .0) (c₁₅ .pre .1),
-      rw (c₁₀ .ss-hor .ensures) (ss-hor-le (c₁₅ .args .b .layout)),
-      rw (c₉ .ss-ver .ensures) (ss-ver-le (c₁₅ .args .b .layout)),
+      chroma-tx (a .args .b) (p .0) (p .1),
+      rw (c₈ .ss-hor .ensures) (ss-hor-le (a .args .b .layout)),
+      rw (c₇ .ss-ver .ensures) (ss-ver-le (a .args .b .layout)),
     )
 
 same-length : tie.Need-same-length
@@ -99,14 +81,19 @@ returns : tie.Need-returns
 returns c =
     let c₆ = c .before .before .before .before .before .before in
     let c₁₀ = c₆ .before .before .before .before in
-    let c₁₁ = c₁₀ .before in
-    let c₁₂ = c₁₁ .before in
+    let c₁₂ = c₁₀ .before .before in
     let c₁₄ = c₁₂ .before .before in
-    let c₁₆ = c₁₄ .before .before in
-    let c₁₇ = c₁₆ .before in
-    let c₁₈ = c₁₇ .before in
-    let c₂₂ = c₁₈ .before .before .before .before in
-    (chroma-put (c₂₂ .args .b) _ _ _ (now (c₂₂ .args .above)) (now (c₂₂ .args .left)) (now (c₂₂ .args .masks)) _ (c₁₈ .record-at .ensures) _ _ _ _ (c₂₂ .pre .1) (c₁₁ .chroma-wide .ensures) (c₁₀ .chroma-high .ensures) (c₁₇ .ss-hor .ensures) (c₁₆ .ss-ver .ensures) (c₁₂ .chroma-unit2 .ensures) (c₁₄ .chroma-unit .ensures) (c₆ .mask-edges-chroma .ensures .0), (rw (c₂₂ .pre .1) (c₆ .mask-edges-chroma .ensures .1 .0 ∙ rw (c₁₁ .chroma-wide .ensures) refl), rw (c₂₂ .pre .1) (c₆ .mask-edges-chroma .ensures .1 .1 ∙ rw (c₁₀ .chroma-high .ensures) refl)))
+    let c₁₅ = c₁₄ .before in
+    let c₁₆ = c₁₅ .before in
+    let a = c₁₆ .before .before .before .before in
+    let p = a .pre in (
+      chroma-put (a .args .b) _ _ _ (now (a .args .above)) (now (a .args .left)) (now (a .args .masks)) _ (c₁₆ .record-at .ensures) _ _ _ _ (p .1) (p .5) (p .6)
+          (c₁₅ .ss-hor .ensures) (c₁₄ .ss-ver .ensures) (c₁₀ .chroma-unit2 .ensures) (c₁₂ .chroma-unit .ensures) (c₆ .mask-edges-chroma .ensures .0),
+      (
+        rw (p .1) (c₆ .mask-edges-chroma .ensures .1 .0 ∙ rw (p .5) refl),
+        rw (p .1) (c₆ .mask-edges-chroma .ensures .1 .1 ∙ rw (p .6) refl),
+      ),
+    )
 
 pub chroma-masks-spec : {M : Type 1} → statement M
 chroma-masks-spec =
@@ -118,8 +105,6 @@ chroma-masks-spec =
     ss-ver-requires
     chroma-unit-requires
     chroma-unit-requires-2
-    chroma-wide-requires
-    chroma-high-requires
     mul-mask-edges-chroma
     sub-mask-edges-chroma
     part-mask-edges-chroma-start

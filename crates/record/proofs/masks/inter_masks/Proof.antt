@@ -1,38 +1,27 @@
 -- The block lies in its record, and what is made of the record is put back in its place.
 use denote.Ref.{now}
-use borrow.Author.Needs.{needs}
 use native.Mathlib.Omega.{arith}
 use mathlib.Core.Path.{refl, _∙_}
 use Rattle.record.proofs.Stores.{inter-put}
 use Rattle.record.proofs.Rooms.{luma-seen, luma-fits, luma-record, luma-covers}
+use borrow.Author.Needs.{needs}
 use Rattle.record.proofs.masks.inter_masks.Statement.{statement}
 use Rattle.record.proofs.masks.inter_masks.Tie as tie
 
 record-at-requires : tie.Need-record-at-requires
-record-at-requires c κs =
-    let c₃ = c .before .before .before in
-    (c₃ .pre .0 .sides, c₃ .pre .0 .x-in, c₃ .pre .0 .y-in)
+record-at-requires c κs = search needs
 
 add-end : tie.Need-add-end
 add-end c =
-    let c₄ = c .before .before .before .before in
-    omega (arith, c .record-at .ensures, luma-record (c₄ .args .b) (c₄ .pre .0) (c₄ .pre .2), c₄ .pre .3)
-
-luma-wide-requires : tie.Need-luma-wide-requires
-luma-wide-requires c κs =
-    let c₆ = c .before .before .before .before .before .before in
-    (c₆ .pre .0 .sides, c₆ .pre .0 .x-in)
-
-luma-high-requires : tie.Need-luma-high-requires
-luma-high-requires c κs =
-    let c₇ = c .before .before .before .before .before .before .before in
-    (c₇ .pre .0 .sides, c₇ .pre .0 .y-in)
+    let c₂ = c in
+    let a = c .before .before .before .before in
+    omega (arith, c₂ .record-at .ensures, luma-record (a .args .b) (a .pre .0) (a .pre .2), a .pre .3)
 
 mul-mask-edges-inter : tie.Need-mul-mask-edges-inter
 mul-mask-edges-inter c =
-    let c₄ = c .before .before .before .before in
-    let c₈ = c₄ .before .before .before .before in
-    omega (arith, c₄ .record-at .ensures, luma-record (c₈ .args .b) (c₈ .pre .0) (c₈ .pre .2), c₈ .pre .3)
+    let c₂ = c .before .before in
+    let a = c .before .before .before .before .before .before in
+    omega (arith, c₂ .record-at .ensures, luma-record (a .args .b) (a .pre .0) (a .pre .2), a .pre .3)
 
 sub-mask-edges-inter : tie.Need-sub-mask-edges-inter
 sub-mask-edges-inter c = search needs
@@ -42,23 +31,22 @@ part-mask-edges-inter-start c = search needs
 
 part-mask-edges-inter-end : tie.Need-part-mask-edges-inter-end
 part-mask-edges-inter-end c =
-    let c₄ = c .before .before .before .before in
-    let c₈ = c₄ .before .before .before .before in
-    omega (arith, c₄ .record-at .ensures, luma-record (c₈ .args .b) (c₈ .pre .0) (c₈ .pre .2), c₈ .pre .3)
+    let c₂ = c .before .before in
+    let a = c .before .before .before .before .before .before in
+    omega (arith, c₂ .record-at .ensures, luma-record (a .args .b) (a .pre .0) (a .pre .2), a .pre .3)
 
 mask-edges-inter-requires : tie.Need-mask-edges-inter-requires
 mask-edges-inter-requires c κs =
-    let c₃ = c .before .before .before in
-    let c₄ = c₃ .before in
-    let c₁₁ = c₄ .before .before .before .before .before .before .before in (
+    let a = c .before .before .before .before .before .before .before .before .before in
+    let p = a .pre in (
       record {
-        wide = (omega (arith, c₄ .luma-wide .ensures, luma-seen (c₁₁ .args .b) (c₁₁ .pre .0) (c₁₁ .pre .2) .0), omega (arith, c₄ .luma-wide .ensures, luma-fits (c₁₁ .args .b) (c₁₁ .pre .0) (c₁₁ .pre .2) .0));
-        high = (omega (arith, c₃ .luma-high .ensures, luma-seen (c₁₁ .args .b) (c₁₁ .pre .0) (c₁₁ .pre .2) .1), omega (arith, c₃ .luma-high .ensures, luma-fits (c₁₁ .args .b) (c₁₁ .pre .0) (c₁₁ .pre .2) .1));
+        wide = (omega (arith, p .6, luma-seen (a .args .b) (p .0) (p .2) .0), omega (arith, p .6, luma-fits (a .args .b) (p .0) (p .2) .0));
+        high = (omega (arith, p .7, luma-seen (a .args .b) (p .0) (p .2) .1), omega (arith, p .7, luma-fits (a .args .b) (p .0) (p .2) .1));
         record-words = omega arith;
-        above-units = omega (arith, c₄ .luma-wide .ensures, c₁₁ .pre .4);
-        left-units = omega (arith, c₃ .luma-high .ensures, c₁₁ .pre .5);
+        above-units = omega (arith, p .6, p .4);
+        left-units = omega (arith, p .7, p .5);
       },
-      rw (c₄ .luma-wide .ensures, c₃ .luma-high .ensures) (luma-covers (c₁₁ .args .b) (c₁₁ .pre .0) (c₁₁ .pre .2) (c₁₁ .pre .1)),
+      rw (p .6, p .7) (luma-covers (a .args .b) (p .0) (p .2) (p .1)),
     )
 
 same-length : tie.Need-same-length
@@ -73,11 +61,15 @@ same-length-3 c = search needs
 returns : tie.Need-returns
 returns c =
     let c₆ = c .before .before .before .before .before .before in
-    let c₁₀ = c₆ .before .before .before .before in
-    let c₁₁ = c₁₀ .before in
-    let c₁₄ = c₁₁ .before .before .before in
-    let c₁₈ = c₁₄ .before .before .before .before in
-    (inter-put (c₁₈ .args .b) _ _ _ (now (c₁₈ .args .above)) (now (c₁₈ .args .left)) (now (c₁₈ .args .masks)) _ (c₁₄ .record-at .ensures) (now (c₁₈ .args .tx-masks)) (c₁₈ .pre .2) (c₁₁ .luma-wide .ensures) (c₁₀ .luma-high .ensures) (c₆ .mask-edges-inter .ensures .0), (rw (c₁₈ .pre .2) (c₆ .mask-edges-inter .ensures .1 .0 ∙ rw (c₁₁ .luma-wide .ensures, c₁₀ .luma-high .ensures) refl), rw (c₁₈ .pre .2) (c₆ .mask-edges-inter .ensures .1 .1 ∙ rw (c₁₁ .luma-wide .ensures, c₁₀ .luma-high .ensures) refl)))
+    let a = c .before .before .before .before .before .before .before .before .before .before .before .before .before .before .before .before in
+    let p = a .pre in (
+      inter-put (a .args .b) _ _ _ (now (a .args .above)) (now (a .args .left)) (now (a .args .masks)) _ (c .before .before .before .before .before .before .before .before .before .before .before .before .record-at .ensures) (now (a .args .tx-masks)) (p .2) (p .6) (p .7)
+          (c₆ .mask-edges-inter .ensures .0),
+      (
+        rw (p .2) (c₆ .mask-edges-inter .ensures .1 .0 ∙ rw (p .6, p .7) refl),
+        rw (p .2) (c₆ .mask-edges-inter .ensures .1 .1 ∙ rw (p .6, p .7) refl),
+      ),
+    )
 
 pub inter-masks-spec : {M : Type 1} → statement M
 inter-masks-spec =
@@ -85,8 +77,6 @@ inter-masks-spec =
     (tie.spec
     record-at-requires
     add-end
-    luma-wide-requires
-    luma-high-requires
     mul-mask-edges-inter
     sub-mask-edges-inter
     part-mask-edges-inter-start
