@@ -3,7 +3,7 @@
 ghost use mathlib.Core.Path.{_≡_};
 ghost use mathlib.Core.Bool.{true, false, _&&_};
 ghost use mathlib.Core.List.{[], _∷_};
-ghost use Prim.Native.Nat.{_+_, _*_, _/_, _<_, _≤_};
+ghost use Prim.Native.Nat.{_+_, _-_, _*_, _/_, _<_, _≤_};
 ghost use lib.IntN.{subℕ};
 ghost use lib.ListN.{getD};
 ghost use Rattle.standard.specs.Math.{dist, sumTo};
@@ -208,12 +208,58 @@ pub fn narrow4(half: u32, hev: bool, l: Line) -> Line
     r
 }
 
-// The line of the narrow filter with no high variance, where it is known: no step clamps then.
+// Whether neither v nor the sums of filter1 and filter2 with it leave the clamp's range.
+fn unclamped(half: u32, v: u32) -> bool
+    requires { ⌜ (half ≤ 2048) × (v ≤ 65536) ⌝ }
+    ensures { λ r. ⌜ (r ≡ true → (7 * half ≤ v) × (v + 4 < 9 * half)) ⌝ }
+{
+    if v < 7 * half {
+        return false;
+    }
+    v + 4 < 9 * half
+}
+
+// The line after the narrow filter, where it is known: no step clamps then.
 pub struct Plain {
     pub known: bool,
     pub line: Line,
 }
 
+// With high variance.
+pub fn plain2(half: u32, l: Line) -> Plain
+    requires { ⌜ (0 < half) × (half ≤ 2048) × (l .p1 < 2 * half) × (l .p0 < 2 * half) × (l .q0 < 2 * half) × (l .q1 < 2 * half) ⌝ }
+    ensures { λ r. ⌜ (r .known ≡ true → r .line ≡ make (narrow half true (of l))) ⌝ }
+{
+    let no = Plain {
+        known: false,
+        line: l,
+    };
+    let c = 8 * half + l.p1 as u32 - l.q1 as u32;
+    if !unclamped(half, c) {
+        return no;
+    }
+    let v = c + 3 * l.q0 as u32 - 3 * l.p0 as u32;
+    if !unclamped(half, v) {
+        return no;
+    }
+    let p0 = std::num::wrapping_sub_u32(l.p0 as u32 + (v + 3) / 8, half);
+    if p0 >= 2 * half {
+        return no;
+    }
+    let q0 = std::num::wrapping_sub_u32(l.q0 as u32 + half, (v + 4) / 8);
+    if q0 >= 2 * half {
+        return no;
+    }
+    let mut r = l;
+    r.p0 = p0 as u16;
+    r.q0 = q0 as u16;
+    Plain {
+        known: true,
+        line: r,
+    }
+}
+
+// Without it: p0 and q0 stay in range by themselves.
 pub fn plain4(half: u32, l: Line) -> Plain
     requires { ⌜ (0 < half) × (half ≤ 2048) × (l .p1 < 2 * half) × (l .p0 < 2 * half) × (l .q0 < 2 * half) × (l .q1 < 2 * half) ⌝ }
     ensures { λ r. ⌜ (r .known ≡ true → r .line ≡ make (narrow half false (of l))) ⌝ }
@@ -222,17 +268,11 @@ pub fn plain4(half: u32, l: Line) -> Plain
         known: false,
         line: l,
     };
-    let p0 = l.p0 as u32;
-    let q0 = l.q0 as u32;
-    let v = 8 * half + 3 * q0 - 3 * p0;
-    if v < 7 * half {
-        return no;
-    }
-    if v + 4 >= 9 * half {
+    let v = 8 * half + 3 * l.q0 as u32 - 3 * l.p0 as u32;
+    if !unclamped(half, v) {
         return no;
     }
     let g1 = (v + 4) / 8;
-    let g2 = (v + 3) / 8;
     let g3 = (g1 + 1 + half) / 2;
     let p1 = std::num::wrapping_sub_u32(l.p1 as u32 + g3, half);
     if p1 >= 2 * half {
@@ -244,8 +284,8 @@ pub fn plain4(half: u32, l: Line) -> Plain
     }
     let mut r = l;
     r.p1 = p1 as u16;
-    r.p0 = (p0 + g2 - half) as u16;
-    r.q0 = (q0 + half - g1) as u16;
+    r.p0 = (l.p0 as u32 + (v + 3) / 8 - half) as u16;
+    r.q0 = (l.q0 as u32 + half - g1) as u16;
     r.q1 = q1 as u16;
     Plain {
         known: true,
@@ -298,7 +338,7 @@ pub fn wide8(l: Line) -> Line
     r
 }
 
-fn tap13(
+fn sum13(
     a0: u16,
     a1: u16,
     a2: u16,
@@ -312,10 +352,10 @@ fn tap13(
     a10: u16,
     a11: u16,
     a12: u16,
-) -> u16
-    ensures { λ r. ⌜ r ≡ (sumTo (λ j. tap 6 1 j * getD (a0 ∷ a1 ∷ a2 ∷ a3 ∷ a4 ∷ a5 ∷ a6 ∷ a7 ∷ a8 ∷ a9 ∷ a10 ∷ a11 ∷ a12 ∷ []) j 0) 13 + 8) / 16 ⌝ }
+) -> u32
+    ensures { λ r. ⌜ (r ≡ sumTo (λ j. tap 6 1 j * getD (a0 ∷ a1 ∷ a2 ∷ a3 ∷ a4 ∷ a5 ∷ a6 ∷ a7 ∷ a8 ∷ a9 ∷ a10 ∷ a11 ∷ a12 ∷ []) j 0) 13 + 8) × (r ≤ 1048568) ⌝ }
 {
-    (((a0 as u32)
+    (a0 as u32)
         + (a1 as u32)
         + (a2 as u32)
         + (a3 as u32)
@@ -328,8 +368,73 @@ fn tap13(
         + (a10 as u32)
         + (a11 as u32)
         + (a12 as u32)
-        + 8)
-        >> 4) as u16
+        + 8
+}
+
+// sum13 of a1 to a13, by s, that of a0 to a12.
+fn next13(
+    s: u32,
+    a0: u16,
+    a1: u16,
+    a2: u16,
+    a3: u16,
+    a4: u16,
+    a5: u16,
+    a6: u16,
+    a7: u16,
+    a8: u16,
+    a9: u16,
+    a10: u16,
+    a11: u16,
+    a12: u16,
+    a13: u16,
+) -> u32
+    requires { ⌜ (s ≡ sumTo (λ j. tap 6 1 j * getD (a0 ∷ a1 ∷ a2 ∷ a3 ∷ a4 ∷ a5 ∷ a6 ∷ a7 ∷ a8 ∷ a9 ∷ a10 ∷ a11 ∷ a12 ∷ []) j 0) 13 + 8) × (s ≤ 1048568) ⌝ }
+    ensures { λ r. ⌜ (r ≡ sumTo (λ j. tap 6 1 j * getD (a1 ∷ a2 ∷ a3 ∷ a4 ∷ a5 ∷ a6 ∷ a7 ∷ a8 ∷ a9 ∷ a10 ∷ a11 ∷ a12 ∷ a13 ∷ []) j 0) 13 + 8) × (r ≤ 1048568) ⌝ }
+{
+    s + a8 as u32 + a13 as u32 - a0 as u32 - a5 as u32
+}
+
+fn sixteenth(s: u32) -> u16
+    requires { ⌜ s ≤ 1048568 ⌝ }
+    ensures { λ r. ⌜ r ≡ s / 16 ⌝ }
+{
+    (s / 16) as u16
+}
+
+// The sums of p5 to q5 divided.
+fn sixteenths(
+    l: Line,
+    s1: u32,
+    s2: u32,
+    s3: u32,
+    s4: u32,
+    s5: u32,
+    s6: u32,
+    s7: u32,
+    s8: u32,
+    s9: u32,
+    s10: u32,
+    s11: u32,
+    s12: u32,
+) -> Line
+    requires { ⌜ (s1 ≤ 1048568) × (s2 ≤ 1048568) × (s3 ≤ 1048568) × (s4 ≤ 1048568) × (s5 ≤ 1048568) × (s6 ≤ 1048568) × (s7 ≤ 1048568) × (s8 ≤ 1048568) × (s9 ≤ 1048568) × (s10 ≤ 1048568) × (s11 ≤ 1048568) × (s12 ≤ 1048568) ⌝ }
+    ensures { λ r. ⌜ r ≡ make (λ k. getD (l .p6 ∷ s1 / 16 ∷ s2 / 16 ∷ s3 / 16 ∷ s4 / 16 ∷ s5 / 16 ∷ s6 / 16 ∷ s7 / 16 ∷ s8 / 16 ∷ s9 / 16 ∷ s10 / 16 ∷ s11 / 16 ∷ s12 / 16 ∷ l .q6 ∷ []) (k - 1) 0) ⌝ }
+{
+    let mut r = l;
+    r.p5 = sixteenth(s1);
+    r.p4 = sixteenth(s2);
+    r.p3 = sixteenth(s3);
+    r.p2 = sixteenth(s4);
+    r.p1 = sixteenth(s5);
+    r.p0 = sixteenth(s6);
+    r.q0 = sixteenth(s7);
+    r.q1 = sixteenth(s8);
+    r.q2 = sixteenth(s9);
+    r.q3 = sixteenth(s10);
+    r.q4 = sixteenth(s11);
+    r.q5 = sixteenth(s12);
+    r
 }
 
 pub fn wide16(l: Line) -> Line
@@ -349,20 +454,19 @@ pub fn wide16(l: Line) -> Line
     let q4 = l.q4;
     let q5 = l.q5;
     let q6 = l.q6;
-    let mut r = l;
-    r.p5 = tap13(p6, p6, p6, p6, p6, p6, p5, p4, p3, p2, p1, p0, q0);
-    r.p4 = tap13(p6, p6, p6, p6, p6, p5, p4, p3, p2, p1, p0, q0, q1);
-    r.p3 = tap13(p6, p6, p6, p6, p5, p4, p3, p2, p1, p0, q0, q1, q2);
-    r.p2 = tap13(p6, p6, p6, p5, p4, p3, p2, p1, p0, q0, q1, q2, q3);
-    r.p1 = tap13(p6, p6, p5, p4, p3, p2, p1, p0, q0, q1, q2, q3, q4);
-    r.p0 = tap13(p6, p5, p4, p3, p2, p1, p0, q0, q1, q2, q3, q4, q5);
-    r.q0 = tap13(p5, p4, p3, p2, p1, p0, q0, q1, q2, q3, q4, q5, q6);
-    r.q1 = tap13(p4, p3, p2, p1, p0, q0, q1, q2, q3, q4, q5, q6, q6);
-    r.q2 = tap13(p3, p2, p1, p0, q0, q1, q2, q3, q4, q5, q6, q6, q6);
-    r.q3 = tap13(p2, p1, p0, q0, q1, q2, q3, q4, q5, q6, q6, q6, q6);
-    r.q4 = tap13(p1, p0, q0, q1, q2, q3, q4, q5, q6, q6, q6, q6, q6);
-    r.q5 = tap13(p0, q0, q1, q2, q3, q4, q5, q6, q6, q6, q6, q6, q6);
-    r
+    let s1 = sum13(p6, p6, p6, p6, p6, p6, p5, p4, p3, p2, p1, p0, q0);
+    let s2 = next13(s1, p6, p6, p6, p6, p6, p6, p5, p4, p3, p2, p1, p0, q0, q1);
+    let s3 = next13(s2, p6, p6, p6, p6, p6, p5, p4, p3, p2, p1, p0, q0, q1, q2);
+    let s4 = next13(s3, p6, p6, p6, p6, p5, p4, p3, p2, p1, p0, q0, q1, q2, q3);
+    let s5 = next13(s4, p6, p6, p6, p5, p4, p3, p2, p1, p0, q0, q1, q2, q3, q4);
+    let s6 = next13(s5, p6, p6, p5, p4, p3, p2, p1, p0, q0, q1, q2, q3, q4, q5);
+    let s7 = next13(s6, p6, p5, p4, p3, p2, p1, p0, q0, q1, q2, q3, q4, q5, q6);
+    let s8 = next13(s7, p5, p4, p3, p2, p1, p0, q0, q1, q2, q3, q4, q5, q6, q6);
+    let s9 = next13(s8, p4, p3, p2, p1, p0, q0, q1, q2, q3, q4, q5, q6, q6, q6);
+    let s10 = next13(s9, p3, p2, p1, p0, q0, q1, q2, q3, q4, q5, q6, q6, q6, q6);
+    let s11 = next13(s10, p2, p1, p0, q0, q1, q2, q3, q4, q5, q6, q6, q6, q6, q6);
+    let s12 = next13(s11, p1, p0, q0, q1, q2, q3, q4, q5, q6, q6, q6, q6, q6, q6);
+    sixteenths(l, s1, s2, s3, s4, s5, s6, s7, s8, s9, s10, s11, s12)
 }
 
 pub fn line_laws()
