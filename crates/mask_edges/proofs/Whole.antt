@@ -1,13 +1,15 @@
 -- An inter block with no transform split is recorded as a block of one: both recordings set the same bits, and words with the same bits are the same.
-use mathlib.Core.Path.{_≡_, refl, sym, ap, _∙_}
-use mathlib.Core.Bool.{Bool, true, false, cond, not, _&&_, _||_}
+use mathlib.Core.Path.{_≡_, refl, sym, ap, ap₂, _∙_}
+use mathlib.Core.Bool.{Bool, true, false, cond, not, _&&_, _||_, false≢true}
 use mathlib.Core.List.{List}
 use Prim.Native.Nat.{ℕ, zero, suc, _+_, _-_, _*_, _/_, _%_, _^_, _<_, min}
 use native.Mathlib.Omega.{arith}
-use lib.Dec.{eqb, ltb}
+use native.Mathlib.Nat.{div-eq-of-lt}
+use lib.Dec.{eqb, leb, ltb}
 use lib.Pow.{pow-lt}
 use lib.ListN.{length, getD, set}
-use borrow.Author.Tests.{eqb-true}
+use borrow.Author.Tests.{eqb-true, leb-true, not-true}
+use Rattle.loops.proofs.Anys.{any-same}
 use Rattle.loops.proofs.Runs.{upTo-holds, upTo-same}
 use Rattle.bits.specs.Bit.{hasBit}
 use Rattle.bits.proofs.Bits.{hasBit-nil}
@@ -18,8 +20,8 @@ use Rattle.units.specs.Sizes.{lumaClass}
 use Rattle.decomp.specs.Cells.{Covers}
 use Rattle.decomp.specs.Split.{isSplit, txAt}
 use Rattle.mask_edges.specs.declared.edge.Pass.{Pass}
-use Rattle.mask_edges.specs.Recording.{Room, Block, columns, rows, edges, blockOf}
-use Rattle.mask_edges.specs.Folds.{blockEdge, stepEdges, walk, lineEdges, stores, gridPass, cellPass, gridMasks, cellMasks, oneMasks, interMasks, lastRow, lastColumn}
+use Rattle.mask_edges.specs.Recording.{Room, Sweep, classAt, edges}
+use Rattle.mask_edges.specs.Folds.{blockEdge, stepEdges, walk, lineEdges, stores, gridPass, cellPass, gridMasks, cellMasks, oneMasks, interMasks, lastRow, lastColumn, wholeBy}
 use Rattle.mask_edges.proofs.Tells.{luma-low, tables-columns, tables-rows}
 use Rattle.mask_edges.proofs.Theorems.{bitsOf, B, I, one-recorded, inter-recorded}
 
@@ -77,42 +79,84 @@ words-cells : (c r : Pass) (txa : List ℕ) (skip : Bool) (a l ms : List ℕ) �
 unfolding cellMasks
 words-cells c r txa skip a l ms w = words-cell-pass _ _ _ _ _ skip _ _ (words-cell-pass _ _ _ _ _ skip _ ms w)
 
+-- ---- sides that are the same in the block have the same edges
+
+module _ (unit place across along : ℕ) (inner : Bool) (class context : ℕ → ℕ) (side side′ : ℕ → ℕ → ℕ)
+    (h : (u v : ℕ) → u < across → v < along → side u v ≡ side′ u v) where
+  abbrev sweep : (ℕ → ℕ → ℕ) → Sweep
+  sweep s = record { unit = unit; place = place; across = across; along = along; side = s; inner = inner; class = class; context = context }
+
+  class-same : (u v : ℕ) → u < across → v < along → classAt (sweep side) u v ≡ classAt (sweep side′) u v
+  class-same zero v p q = ap (λ (k : ℕ). min (class k) (context v)) (h 0 v p q)
+  class-same (suc u) v p q = ap₂ (λ (j k : ℕ). min (class j) (class k)) (h (suc u) v p q) (h u v (omega arith) q)
+
+  edges-same : (bit : ℕ → ℕ → ℕ → ℕ) (e : ℕ) → edges (sweep side) bit e ≡ edges (sweep side′) bit e
+  unfolding edges
+  edges-same bit e =
+      any-same across _ _
+      (λ u p. any-same along _ _
+      (λ v q. ap₂ (λ (s k : ℕ). (eqb (u % s) 0 && (eqb u 0 || inner)) && eqb (bit (unit + u) k (place + v)) e) (h u v p q) (class-same u v p q)))
+
 -- ---- nothing is split
 
-module _ (tm : List ℕ) (t : ℕ) (h : (eqb t 0 || eqb (getD tm 0 0) 0) ≡ true) where
-  none-split : (x y : ℕ) → isSplit (getD tm 0 0) t x y ≡ false
+both : (x y : Bool) → (x && y) ≡ true → (x ≡ true) × (y ≡ true)
+both true y e = (refl, e)
+both false y e = absurd (false≢true e)
+
+module _ (t w4 h4 m x y : ℕ) (p : x < w4) (q : y < h4) where
+  first-off : ((leb w4 (Tx_Wide t) && leb h4 (Tx_High t)) && not (hasBit m 0)) ≡ true → hasBit m (y / Tx_High t * 4 + x / Tx_Wide t) ≡ false
+  first-off g =
+      let a = both (leb w4 (Tx_Wide t) && leb h4 (Tx_High t)) (not (hasBit m 0)) g in
+      let d = both (leb w4 (Tx_Wide t)) (leb h4 (Tx_High t)) (a .0) in
+      let i : x / Tx_Wide t ≡ 0 = div-eq-of-lt (omega (arith, leb-true w4 (Tx_Wide t) (d .0))) in
+      let j : y / Tx_High t ≡ 0 = div-eq-of-lt (omega (arith, leb-true h4 (Tx_High t) (d .1))) in
+      rw (i, j) (not-true (hasBit m 0) (a .1))
+
+  none-split : wholeBy t w4 h4 (Tx_Wide t) (Tx_High t) m ≡ true → isSplit m t x y ≡ false
   unfolding isSplit
-  none-split x y = either (eqb t 0) h
+  none-split = either (eqb t 0) (eqb m 0) refl
     where
-      either : (b : Bool) → (b || eqb (getD tm 0 0) 0) ≡ true → (not b && hasBit (getD tm 0 0) (y / Tx_High t * 4 + x / Tx_Wide t)) ≡ false
-      either true g = refl
-      either false g = rw (eqb-true (getD tm 0 0) 0 g) (hasBit-nil (y / Tx_High t * 4 + x / Tx_Wide t))
+      either : (b c : Bool) → eqb m 0 ≡ c → ((b || c) || ((leb w4 (Tx_Wide t) && leb h4 (Tx_High t)) && not (hasBit m 0))) ≡ true
+          → (not b && hasBit m (y / Tx_High t * 4 + x / Tx_Wide t)) ≡ false
+      either true c e g = refl
+      either false true e g = rw (eqb-true m 0 e) (hasBit-nil (y / Tx_High t * 4 + x / Tx_Wide t))
+      either false false e g = first-off g
 
-  unsplit : (x y : ℕ) → txAt tm t x y ≡ t
+-- by what the code has for the sides
+pub whole-at : (t w4 h4 w h m : ℕ) (r : Bool) → r ≡ wholeBy t w4 h4 w h m → w ≡ Tx_Wide t → h ≡ Tx_High t → r ≡ true
+    → wholeBy t w4 h4 (Tx_Wide t) (Tx_High t) m ≡ true
+whole-at t w4 h4 w h m r e ew eh s = sym (e ∙ rw (ew, eh) refl) ∙ s
+
+module _ (tm : List ℕ) (t w4 h4 : ℕ) (h : wholeBy t w4 h4 (Tx_Wide t) (Tx_High t) (getD tm 0 0) ≡ true) where
+  unsplit : (x y : ℕ) → x < w4 → y < h4 → txAt tm t x y ≡ t
   unfolding txAt
-  unsplit x y = rw (none-split x y) refl
+  unsplit x y p q = rw (none-split t w4 h4 (getD tm 0 0) x y p q h) refl
 
-  module _ (by4 bx4 w4 h4 : ℕ) (skip : Bool) (a l ms : List ℕ) (r : Room by4 bx4 w4 h4 0 0 (length ms) (length a) (length l)) (c : Covers t w4 h4) where
+  module _ (by4 bx4 : ℕ) (skip : Bool) (a l ms : List ℕ) (r : Room by4 bx4 w4 h4 0 0 (length ms) (length a) (length l)) (c : Covers t w4 h4) where
     pub whole-masks : Words ms → oneMasks by4 bx4 w4 h4 skip t a l ms ≡ interMasks by4 bx4 w4 h4 skip t tm a l ms
     unfolding B I
     whole-masks w =
         let R = one-recorded by4 bx4 w4 h4 0 0 a l ms r (omega arith) (omega arith) false lumaClass luma-low skip t (c .code) in
         let S = inter-recorded by4 bx4 w4 h4 skip t tm a l ms r c in
         isSet-ext _ _ (R .long ∙ sym (S .long)) (words-grid _ _ lumaClass t skip a l ms w) (words-cells _ _ _ skip a l ms w)
-        (λ x. R .bits x ∙ sym (S .bits x ∙ ap (λ (tx : ℕ → ℕ → ℕ). isSet ms x
-        || (edges (columns (blockOf lumaClass (not skip) tx by4 bx4 w4 h4 a l)) (bitsOf false 0 0 0) x
-        || edges (rows (blockOf lumaClass (not skip) tx by4 bx4 w4 h4 a l)) (bitsOf false 0 0 1) x)) (λ i u v. unsplit u v i)))
+        (λ x. R .bits x ∙ sym (S .bits x ∙ ap₂ (λ (p q : Bool). isSet ms x || (p || q))
+        (edges-same bx4 by4 w4 h4 (not skip) lumaClass (λ y. getD l y 0) (λ u v. Tx_Wide (txAt tm t u v)) (λ _ _. Tx_Wide t)
+        (λ u v p q. ap Tx_Wide (unsplit u v p q)) (bitsOf false 0 0 0) x)
+        (edges-same by4 bx4 h4 w4 (not skip) lumaClass (λ y. getD a y 0) (λ u v. Tx_High (txAt tm t v u)) (λ _ _. Tx_High t)
+        (λ u v p q. ap Tx_High (unsplit v u q p)) (bitsOf false 0 0 1) x)))
 
     pub whole-above : stores w4 (λ _. lumaClass (Tx_High t)) a ≡ stores w4 (lastRow tm t w4 h4) a
     unfolding stores
     whole-above =
         upTo-same (λ v c. set c v (lumaClass (Tx_High t))) (λ v c. set c v (lastRow tm t w4 h4 v)) w4
-        (λ v g s. ap (set s v) (sym (tables-rows by4 bx4 w4 h4 t skip tm a l c .class (h4 - 1) v (omega (arith, r .high .0)) g
-        ∙ ap (λ (k : ℕ). lumaClass (Tx_High k)) (unsplit v (h4 - 1))))) a
+        (λ v g s. let e : h4 - 1 < h4 = omega (arith, r .high .0) in
+        ap (set s v) (sym (tables-rows by4 bx4 w4 h4 t skip tm a l c .class (h4 - 1) v e g
+        ∙ ap (λ (k : ℕ). lumaClass (Tx_High k)) (unsplit v (h4 - 1) g e)))) a
 
     pub whole-left : stores h4 (λ _. lumaClass (Tx_Wide t)) l ≡ stores h4 (lastColumn tm t w4 h4) l
     unfolding stores
     whole-left =
         upTo-same (λ v c. set c v (lumaClass (Tx_Wide t))) (λ v c. set c v (lastColumn tm t w4 h4 v)) h4
-        (λ v g s. ap (set s v) (sym (tables-columns by4 bx4 w4 h4 t skip tm a l c .class (w4 - 1) v (omega (arith, r .wide .0)) g
-        ∙ ap (λ (k : ℕ). lumaClass (Tx_Wide k)) (unsplit (w4 - 1) v)))) l
+        (λ v g s. let e : w4 - 1 < w4 = omega (arith, r .wide .0) in
+        ap (set s v) (sym (tables-columns by4 bx4 w4 h4 t skip tm a l c .class (w4 - 1) v e g
+        ∙ ap (λ (k : ℕ). lumaClass (Tx_Wide k)) (unsplit (w4 - 1) v e g)))) l

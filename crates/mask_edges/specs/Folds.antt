@@ -12,15 +12,17 @@
 --   Reach step x            x is reached from 0 by one step or more
 --   cellAt pass what u v    the cell of the tables a of transforms that tells the class (what 0) or the step (1) at (u, v); classIn a p, stepIn a p
 --   tables ms t w4 h4       the tables of an inter block, from cells of 0
+--   wholeBy t w4 h4 w h m   a test that no transform is split, of w4 by h4 units of transforms of w by h, by the first mask m
 --   oneMasks, intraMasks, chromaMasks, interMasks, lastRow, lastColumn     what the recorders leave
 --   Held p len, Told        what the helpers ask: the block lies in the record; the cells hold classes, and steps that go on
 use mathlib.Core.Path.{_≡_}
-use mathlib.Core.Bool.{Bool, true, false, cond}
+use mathlib.Core.Bool.{Bool, true, false, cond, not, _&&_, _||_}
 use mathlib.Core.List.{List}
 use Prim.Native.Nat.{ℕ, zero, suc, _+_, _-_, _*_, _/_, _%_, _≤_, _<_, min}
-use lib.Dec.{ltb}
+use lib.Dec.{eqb, leb, ltb}
 use lib.ListN.{length, getD, set, replicate}
 use Rattle.loops.specs.Run.{upTo}
+use Rattle.bits.specs.Bit.{hasBit}
 use Rattle.bits.specs.Mark.{mark, marks}
 use Rattle.standard.specs.Sizes.{Tx_Wide, Tx_High}
 use Rattle.units.specs.Memory.{lumaWord, chromaWord, halfUnits}
@@ -112,6 +114,9 @@ unfoldable pub cellMasks : Pass → Pass → List ℕ → Bool → List ℕ → 
 cellMasks c r txa skip a l ms =
     cellPass (bitIn r) (r .across) (r .along) (classIn txa r) (stepIn txa r) skip (λ x. getD a x 0)
     (cellPass (bitIn c) (c .across) (c .along) (classIn txa c) (stepIn txa c) skip (λ y. getD l y 0) ms)
+
+abbrev pub wholeBy : ℕ → ℕ → ℕ → ℕ → ℕ → ℕ → Bool
+wholeBy t w4 h4 w h m = (eqb t 0 || eqb m 0) || ((leb w4 w && leb h4 h) && not (hasBit m 0))
 
 pub record Held (p : Pass) (len : ℕ) : Type 0 where
   pub pass : p .pass < 2

@@ -17,15 +17,14 @@ use units::sizes::luma_class;
 use units::sizes::luma_tx_high;
 use units::sizes::luma_tx_wide;
 ghost use mathlib.Core.Path.{_≡_};
-ghost use mathlib.Core.Bool.{true, false, _||_};
+ghost use mathlib.Core.Bool.{true, false};
 ghost use Prim.Native.Nat.{ℕ, _<_, _≤_};
-ghost use lib.Dec.{eqb};
 ghost use lib.ListN.{length, getD};
 ghost use Rattle.standard.specs.Sizes.{Tx_Wide, Tx_High};
 ghost use Rattle.units.specs.Sizes.{lumaClass, chromaClass};
 ghost use Rattle.decomp.specs.Cells.{Covers};
 ghost use Rattle.mask_edges.specs.Recording.{Room};
-ghost use Rattle.mask_edges.specs.Folds.{oneMasks, intraMasks, chromaMasks, interMasks, lastRow, lastColumn, stores};
+ghost use Rattle.mask_edges.specs.Folds.{oneMasks, intraMasks, chromaMasks, interMasks, lastRow, lastColumn, stores, wholeBy};
 ghost use Rattle.mask_edges.specs.Promises.{Promises};
 
 // A block of one transform, of w by h units.
@@ -98,11 +97,19 @@ pub fn mask_edges_chroma(
     mask_grid(masks, down, h.0, chroma_class(h), skip_inter, a);
 }
 
-// No transform of the block can be split.
-fn is_whole(max_tx: usize, tx_masks: &[u16; 2]) -> bool
-    ensures { λ r. ⌜ r ≡ (eqb «max_tx» 0 || eqb (getD (now («tx_masks» .entry)) 0 0) 0) ⌝ }
+// Nothing of the block is split: no transform can be, or its one maximal transform, of w by h units, is not.
+fn is_whole(
+    max_tx: usize,
+    w4: LumaUnit,
+    h4: LumaUnit,
+    w: LumaUnit,
+    h: LumaUnit,
+    tx_masks: &[u16; 2],
+) -> bool
+    ensures { λ r. ⌜ r ≡ wholeBy «max_tx» (w4 .0) (h4 .0) (w .0) (h .0) (getD (now («tx_masks» .entry)) 0 0) ⌝ }
 {
-    (max_tx == 0) | (tx_masks[0] == 0)
+    let none = (max_tx == 0) | (tx_masks[0] == 0);
+    none | (((w4.0 <= w.0) & (h4.0 <= h.0)) & !bits::has(tx_masks[0], 0))
 }
 
 pub fn mask_edges_inter(
@@ -122,9 +129,9 @@ pub fn mask_edges_inter(
     ensures above { λ _. ⌜ now (a .exit) ≡ stores (w4 .0) (lastRow (now («tx_masks» .entry)) «max_tx» (w4 .0) (h4 .0)) (now (a .entry)) ⌝ }
     ensures left { λ _. ⌜ now (l .exit) ≡ stores (h4 .0) (lastColumn (now («tx_masks» .entry)) «max_tx» (w4 .0) (h4 .0)) (now (l .entry)) ⌝ }
 {
-    if is_whole(max_tx, tx_masks) {
-        let w = luma_tx_wide(max_tx);
-        let h = luma_tx_high(max_tx);
+    let w = luma_tx_wide(max_tx);
+    let h = luma_tx_high(max_tx);
+    if is_whole(max_tx, w4, h4, w, h, tx_masks) {
         one_transform(masks, by4, bx4, w4, h4, skip, w, h, a, l);
         return;
     }

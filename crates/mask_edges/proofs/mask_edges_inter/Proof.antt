@@ -1,22 +1,20 @@
 -- Two passes over the cells that the split fills; or, where nothing is split, the block of one transform, which is recorded the same.
 use Rattle.mask_edges.proofs.Asks.{cells-asked, cells-both, context-taken}
 use Rattle.mask_edges.proofs.Tells.{from-zeros, told-columns, told-rows}
-use Rattle.mask_edges.proofs.Whole.{whole-masks, whole-above, whole-left}
+use Rattle.mask_edges.proofs.Whole.{whole-at, whole-masks, whole-above, whole-left}
 use Rattle.mask_edges.specs.Folds.{stores}
 use Rattle.units.proofs.Rules.{tx-rule}
 use Rattle.units.specs.Sizes.{lumaClass}
 use Rattle.bits.specs.Mark.{Words}
+use lib.ListN.{getD}
 use denote.Ref.{now}
 use native.Mathlib.Omega.{arith}
 use mathlib.Core.Bool.{false}
-use mathlib.Core.Path.{sym, ap, _∙_}
+use mathlib.Core.Path.{ap, _∙_}
 use Prim.Native.Nat.{ℕ}
 use borrow.Author.Needs.{needs}
 use Rattle.mask_edges.proofs.mask_edges_inter.Statement.{statement}
 use Rattle.mask_edges.proofs.mask_edges_inter.Tie as tie
-
-is-whole-requires : tie.Need-is-whole-requires
-is-whole-requires c κs = search needs
 
 luma-tx-wide-requires : tie.Need-luma-tx-wide-requires
 luma-tx-wide-requires c κs = search needs
@@ -24,11 +22,14 @@ luma-tx-wide-requires c κs = search needs
 luma-tx-high-requires : tie.Need-luma-tx-high-requires
 luma-tx-high-requires c κs = search needs
 
+is-whole-requires : tie.Need-is-whole-requires
+is-whole-requires c κs = search needs
+
 one-transform-requires : tie.Need-one-transform-requires
 one-transform-requires c κs =
     let p = c .before .before .before .before .before .before .before .before .before .before .pre in
     let w = tx-rule _ (p .1 .code) in
-    (p .0, rw (c .before .before .before .before .luma-tx-wide .ensures) (w .wide .low), rw (c .before .before .before .luma-tx-high .ensures) (w .high .low))
+    (p .0, rw (c .before .before .before .before .before .before .luma-tx-wide .ensures) (w .wide .low), rw (c .before .before .before .before .before .luma-tx-high .ensures) (w .high .low))
 
 same-length : tie.Need-same-length
 same-length c = search needs
@@ -43,23 +44,22 @@ returns : tie.Need-returns
 unfolding Words
 returns c =
     let c₆ = c .before .before .before .before .before .before in
-    let c₁₀ = c₆ .before .before .before .before in
-    let c₁₃ = c₁₀ .before .before .before in
-    let c₁₆ = c₁₃ .before .before .before in
+    let c₁₁ = c₆ .before .before .before .before .before in
+    let c₁₆ = c₁₁ .before .before .before .before .before in
     let g = c₁₆ .before .args in
     let p = c₁₆ .before .pre in
-    let s = sym (c₁₃ .is-whole .ensures) ∙ c₁₀ .before .before .if1 .taken in
-    let w = c₁₀ .before .luma-tx-wide .ensures in
-    let h = c₁₀ .luma-tx-high .ensures in
+    let w = c₁₁ .before .before .luma-tx-wide .ensures in
+    let h = c₁₁ .before .luma-tx-high .ensures in
+    let s = whole-at (g .max-tx) (g .w4 .0) (g .h4 .0) _ _ (getD (now (g .tx-masks)) 0 0) _ (c₁₁ .is-whole .ensures) w h (c .before .before .before .before .before .before .before .before .before .before .if1 .taken) in
     let E = c₆ .one-transform .ensures in (
-      E .0 _ w h ∙ whole-masks (now (g .tx-masks)) (g .max-tx) s (g .by4 .0) (g .bx4 .0) (g .w4 .0) (g .h4 .0) (g .skip) (now (g .a)) (now (g .l))
-          (now (g .masks)) (p .0) (p .1) (λ i. omega (arith, c₁₆ .slice-known .given i)),
+      E .0 _ w h ∙ whole-masks (now (g .tx-masks)) (g .max-tx) (g .w4 .0) (g .h4 .0) s (g .by4 .0) (g .bx4 .0) (g .skip) (now (g .a)) (now (g .l)) (now (g .masks)) (p .0)
+          (p .1) (λ i. omega (arith, c₁₆ .slice-known .given i)),
       (
         E .1 .0 ∙ ap (λ (k : ℕ). stores (g .w4 .0) (λ _. lumaClass k) (now (g .a))) h
-            ∙ whole-above (now (g .tx-masks)) (g .max-tx) s (g .by4 .0) (g .bx4 .0) (g .w4 .0) (g .h4 .0) (g .skip) (now (g .a)) (now (g .l)) (now (g .masks)) (p .0)
+            ∙ whole-above (now (g .tx-masks)) (g .max-tx) (g .w4 .0) (g .h4 .0) s (g .by4 .0) (g .bx4 .0) (g .skip) (now (g .a)) (now (g .l)) (now (g .masks)) (p .0)
             (p .1),
         E .1 .1 ∙ ap (λ (k : ℕ). stores (g .h4 .0) (λ _. lumaClass k) (now (g .l))) w
-            ∙ whole-left (now (g .tx-masks)) (g .max-tx) s (g .by4 .0) (g .bx4 .0) (g .w4 .0) (g .h4 .0) (g .skip) (now (g .a)) (now (g .l)) (now (g .masks)) (p .0)
+            ∙ whole-left (now (g .tx-masks)) (g .max-tx) (g .w4 .0) (g .h4 .0) s (g .by4 .0) (g .bx4 .0) (g .skip) (now (g .a)) (now (g .l)) (now (g .masks)) (p .0)
             (p .1),
       ),
     )
@@ -83,11 +83,11 @@ mask-cells-requires : tie.Need-mask-cells-requires
 mask-cells-requires c κs =
     let c₄ = c .before .before .before .before in
     let c₆ = c₄ .before .before in
-    let c₁₃ = c₆ .before .before .before .before .before .before .before in
-    let r = c₁₃ .pre .0 in
-    let g = c₁₃ .args in
+    let c₁₅ = c₆ .before .before .before .before .before .before .before .before .before in
+    let r = c₁₅ .pre .0 in
+    let g = c₁₅ .args in
     cells-asked _ false 16 0 _ _ _ _ _ (c₄ .columns .ensures) (omega arith) (omega arith, omega arith) (r .wide .1) (r .high .1) (r .record-words) _ _
-    (told-columns (g .by4 .0) (g .bx4 .0) _ _ _ (g .skip) (now (g .tx-masks)) (now (g .a)) (now (g .l)) (c₁₃ .pre .1) _ _
+    (told-columns (g .by4 .0) (g .bx4 .0) _ _ _ (g .skip) (now (g .tx-masks)) (now (g .a)) (now (g .l)) (c₁₅ .pre .1) _ _
     (from-zeros _ _ _ _ _ (c₆ .decomp-block .ensures)) (c₄ .columns .ensures)) (r .wide .0) (r .left-units)
 
 slice-aggregate-mask-cells-2 : tie.Need-slice-aggregate-mask-cells-2
@@ -98,12 +98,12 @@ mask-cells-requires-2 c κs =
     let c₇ = c .before .before .before .before .before .before .before in
     let c₁₁ = c₇ .before .before .before .before in
     let c₁₄ = c₁₁ .before .before .before in
-    let c₂₁ = c₁₄ .before .before .before .before .before .before .before in
-    let r = c₂₁ .pre .0 in
-    let g = c₂₁ .args in
+    let c₂₃ = c₁₄ .before .before .before .before .before .before .before .before .before in
+    let r = c₂₃ .pre .0 in
+    let g = c₂₃ .args in
     cells-asked _ false 16 1 _ _ _ _ _ (c₁₁ .rows .ensures) (omega arith) (omega arith, omega arith) (r .high .1) (r .wide .1)
     (rw (c₇ .mask-cells .kept .0) (r .record-words)) _ _
-    (told-rows (g .by4 .0) (g .bx4 .0) _ _ _ (g .skip) (now (g .tx-masks)) (now (g .a)) (now (g .l)) (c₂₁ .pre .1) _ _
+    (told-rows (g .by4 .0) (g .bx4 .0) _ _ _ (g .skip) (now (g .tx-masks)) (now (g .a)) (now (g .l)) (c₂₃ .pre .1) _ _
     (from-zeros _ _ _ _ _ (c₁₄ .decomp-block .ensures)) (c₁₁ .rows .ensures)) (r .high .0) (r .above-units)
 
 same-length-4 : tie.Need-same-length-4
@@ -135,9 +135,9 @@ pub mask-edges-inter-spec : {M : Type 1} → statement M
 mask-edges-inter-spec =
     tie.close
     (tie.spec
-    is-whole-requires
     luma-tx-wide-requires
     luma-tx-high-requires
+    is-whole-requires
     one-transform-requires
     same-length
     same-length-2
