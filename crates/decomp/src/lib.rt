@@ -32,14 +32,35 @@ fn fill_cells(txa: &mut [u8], at: usize, w: usize, h: usize, v: u8)
     }
 }
 
+// A run of both tables of classes: side by side, since runs are short.
+fn fill_pair(txa: &mut [u8], at: usize, n: usize, u: u8, v: u8)
+    requires { ⌜ (n ≤ 32) × (2048 + at + n ≤ length (now txa)) ⌝ }
+    ensures { λ _. ⌜ now (txa .exit) ≡ run (2048 + at) n v (run at n u (now (txa .entry))) ⌝ }
+{
+    for i in 0..n {
+        txa[at + i] = u;
+        txa[2048 + at + i] = v;
+    }
+}
+
+fn fill_classes(txa: &mut [u8], at: usize, w: usize, h: usize, u: u8, v: u8)
+    requires { ⌜ (length (now txa) ≡ 4096) × (0 < h) × (w ≤ 32) × (at + 32 * h + w ≤ 1056) ⌝ }
+    ensures { λ _. ⌜ now (txa .exit) ≡ fill (2048 + at) w h v (fill at w h u (now (txa .entry))) ⌝ }
+{
+    for y in 0..h {
+        fill_pair(txa, at + 32 * y, w, u, v);
+    }
+}
+
 fn put_cells(txa: &mut [u8], y0: usize, x0: usize, w: usize, h: usize)
     requires { ⌜ (length (now txa) ≡ 4096) × (0 < w) × (w ≤ 16) × (x0 + w ≤ 32) × (0 < h) × (h ≤ 16) × (y0 + h ≤ 32) ⌝ }
     ensures { λ _. ⌜ now (txa .exit) ≡ put y0 x0 w h (now (txa .entry)) ⌝ }
 {
     let at = y0 * 32 + x0;
-    fill_cells(txa, at, w, h, luma_class(LumaUnit(w)));
+    let across = luma_class(LumaUnit(w));
+    let down = luma_class(LumaUnit(h));
+    fill_classes(txa, at, w, h, across, down);
     fill_cells(txa, 1024 + at, 1, h, w as u8);
-    fill_cells(txa, 2048 + at, w, h, luma_class(LumaUnit(h)));
     fill_cells(txa, 3072 + at, w, 1, h as u8);
 }
 
