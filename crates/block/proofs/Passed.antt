@@ -45,20 +45,16 @@ module _ (b : Block) where
   pub sides : shapeBad b ≡ false → codeBad b ≡ false → Sides b
   sides e f = let s = shaped e in (s .0 .1, s .1 .1, coded f .0)
 
-  pub unblocked : blockBad b ≡ false → (codeBad b ≡ false) × (placeBad b ≡ false)
-  unblocked e =
-      let t = txBad b || (maxTxBad b || refBad b) in
-      let p = or-off (codeBad b) (placeBad b || t) e in
-      (p .0, or-off (placeBad b) t (p .1) .0)
+  pub unblocked : blockBad b ≡ false → placeBad b ≡ false
+  unblocked e = or-off (placeBad b) (txBad b || (maxTxBad b || refBad b)) e .0
 
 -- ---- the number, with the tests of each asked at once
 
-five : (p q r s t : Bool) (n : ℕ) → cond (p || (q || (r || (s || t)))) 5 n ≡ cond p 5 (cond q 5 (cond r 5 (cond s 5 (cond t 5 n))))
-five true q r s t n = refl
-five false true r s t n = refl
-five false false true s t n = refl
-five false false false true t n = refl
-five false false false false t n = refl
+five : (p q r s : Bool) (n : ℕ) → cond (p || (q || (r || s))) 5 n ≡ cond p 5 (cond q 5 (cond r 5 (cond s 5 n)))
+five true q r s n = refl
+five false true r s n = refl
+five false false true s n = refl
+five false false false s n = refl
 
 six : (p q : Bool) (n : ℕ) → cond (p || q) 6 n ≡ cond p 6 (cond q 6 n)
 six true q n = refl
@@ -71,27 +67,31 @@ module _ (b : Block) (stride : ℕ) (m : Lent) where
   abbrev lengths : Bool
   lengths = lengthBad b stride (length (m .levels)) (length (m .masks))
 
-  numbered : number b stride m ≡ cond (shapeBad b) 4 (cond (blockBad b) 5 (cond contexts 6 (cond lengths 7 0)))
+  numbered : number b stride m ≡ cond (shapeBad b) 4 (cond (codeBad b) 5 (cond (blockBad b) 5 (cond contexts 6 (cond lengths 7 0))))
   unfolding number
   numbered =
-      ap (λ (n : ℕ). cond (shapeBad b) 4 n)
-      (sym (five (codeBad b) (placeBad b) (txBad b) (maxTxBad b) (refBad b) _)
+      ap (λ (n : ℕ). cond (shapeBad b) 4 (cond (codeBad b) 5 n))
+      (sym (five (placeBad b) (txBad b) (maxTxBad b) (refBad b) _)
       ∙ ap (λ (n : ℕ). cond (blockBad b) 5 n) (sym (six (lumaContextsBad b (m .above) (m .left)) (chromaContextsBad b (m .above-uv) (m .left-uv)) _)))
 
   pub is-4 : shapeBad b ≡ true → 4 ≡ number b stride m
   is-4 s = sym (numbered ∙ rw s refl)
 
-  pub is-5 : shapeBad b ≡ false → blockBad b ≡ true → 5 ≡ number b stride m
-  is-5 s f = sym (numbered ∙ rw (s, f) refl)
+  pub is-5 : shapeBad b ≡ false → codeBad b ≡ true → 5 ≡ number b stride m
+  is-5 s c = sym (numbered ∙ rw (s, c) refl)
 
-  pub is-6 : shapeBad b ≡ false → blockBad b ≡ false → contexts ≡ true → 6 ≡ number b stride m
-  is-6 s f e = sym (numbered ∙ rw (s, f, e) refl)
+  module _ (s : shapeBad b ≡ false) (c : codeBad b ≡ false) where
+    pub is-5-too : blockBad b ≡ true → 5 ≡ number b stride m
+    is-5-too f = sym (numbered ∙ rw (s, c, f) refl)
 
-  pub is-7 : shapeBad b ≡ false → blockBad b ≡ false → contexts ≡ false → lengths ≡ true → 7 ≡ number b stride m
-  is-7 s f e l = sym (numbered ∙ rw (s, f, e, l) refl)
+    pub is-6 : blockBad b ≡ false → contexts ≡ true → 6 ≡ number b stride m
+    is-6 f e = sym (numbered ∙ rw (s, c, f, e) refl)
 
-  pub is-0 : shapeBad b ≡ false → blockBad b ≡ false → contexts ≡ false → lengths ≡ false → 0 ≡ number b stride m
-  is-0 s f e l = sym (numbered ∙ rw (s, f, e, l) refl)
+    pub is-7 : blockBad b ≡ false → contexts ≡ false → lengths ≡ true → 7 ≡ number b stride m
+    is-7 f e l = sym (numbered ∙ rw (s, c, f, e, l) refl)
+
+    pub is-0 : blockBad b ≡ false → contexts ≡ false → lengths ≡ false → 0 ≡ number b stride m
+    is-0 f e l = sym (numbered ∙ rw (s, c, f, e, l) refl)
 
 -- the visible sizes
 pub seen-as : (w h w′ h′ : ℕ) (r : Bool) → r ≡ (ltb 0 w && ltb 0 h) → w ≡ w′ → h ≡ h′ → r ≡ (ltb 0 w′ && ltb 0 h′)

@@ -5,7 +5,7 @@
 --   lumaTxBad, chromaTxBad, txBad     5: a transform wider or higher than the block in its plane
 --   maxTxBad              5: of an inter block, neither the largest transform nor 4x4
 --   refBad                5: of an inter block, a reference above 7
---   blockBad              any of 5
+--   blockBad              any of 5 but codeBad
 --   contextBad n most c   the context c is shorter than n, or has a value above most among them
 --   lumaContextsBad, chromaContextsBad, contextsBad     6, in a plane in which units are recorded, and in either
 --   lengthBad             7: levels, their stride, masks
@@ -51,7 +51,7 @@ abbrev pub refBad : Block → Bool
 refBad b = b .inter && ltb 7 (b .reference)
 
 abbrev pub blockBad : Block → Bool
-blockBad b = codeBad b || (placeBad b || (txBad b || (maxTxBad b || refBad b)))
+blockBad b = placeBad b || (txBad b || (maxTxBad b || refBad b))
 
 abbrev pub contextBad : ℕ → ℕ → List ℕ → Bool
 contextBad n most c = ltb (length c) n || anyBelow n (λ i. ltb most (getD c i 0))

@@ -17,7 +17,7 @@ ghost use mathlib.Core.Path.{_≡_};
 ghost use mathlib.Core.Bool.{_&&_};
 ghost use Prim.Native.Nat.{_≤_};
 ghost use lib.Dec.{ltb};
-ghost use Rattle.block.specs.Block.{w4, h4, bw4, bh4, chromaSide, cbw4, cbh4, Sides};
+ghost use Rattle.block.specs.Block.{w4, h4, wide, high, bw4, bh4, chromaSide, cbw4, cbh4, Sides};
 
 // The frame, the block's place, codes and chroma pair; of an intra block skip, reference and mode are 0.
 pub struct Block {
@@ -36,22 +36,35 @@ pub struct Block {
     pub mode: usize,
 }
 
+// Here and below n is the block's side.
+pub fn luma_across(b: Block, n: LumaUnit) -> LumaUnit
+    requires { ⌜ Sides b × (b .x .0 ≤ w4 b) × (n .0 ≡ wide b) ⌝ }
+    ensures { λ r. ⌜ r .0 ≡ bw4 b ⌝ }
+{
+    let rest = luma_units(b.width).0 - b.x.0;
+    LumaUnit(least(rest, n.0))
+}
+
 pub fn luma_wide(b: Block) -> LumaUnit
     requires { ⌜ Sides b × (b .x .0 ≤ w4 b) ⌝ }
     ensures { λ r. ⌜ r .0 ≡ bw4 b ⌝ }
 {
-    let rest = luma_units(b.width).0 - b.x.0;
-    let wide = block_wide(b.size).0;
-    LumaUnit(least(rest, wide))
+    luma_across(b, block_wide(b.size))
+}
+
+pub fn luma_down(b: Block, n: LumaUnit) -> LumaUnit
+    requires { ⌜ Sides b × (b .y .0 ≤ h4 b) × (n .0 ≡ high b) ⌝ }
+    ensures { λ r. ⌜ r .0 ≡ bh4 b ⌝ }
+{
+    let below = luma_units(b.height).0 - b.y.0;
+    LumaUnit(least(below, n.0))
 }
 
 pub fn luma_high(b: Block) -> LumaUnit
     requires { ⌜ Sides b × (b .y .0 ≤ h4 b) ⌝ }
     ensures { λ r. ⌜ r .0 ≡ bh4 b ⌝ }
 {
-    let rest = luma_units(b.height).0 - b.y.0;
-    let high = block_high(b.size).0;
-    LumaUnit(least(rest, high))
+    luma_down(b, block_high(b.size))
 }
 
 // Of w4 or h4 units from the place u on, what a block's side of n units has in the chroma plane.
@@ -65,28 +78,32 @@ fn chroma_side(all: LumaUnit, u: LumaUnit, n: LumaUnit, ss: usize) -> ChromaUnit
     ))
 }
 
+pub fn chroma_across(b: Block, n: LumaUnit) -> ChromaUnit
+    requires { ⌜ Sides b × (b .x .0 ≤ w4 b) × (n .0 ≡ wide b) ⌝ }
+    ensures { λ r. ⌜ r .0 ≡ cbw4 b ⌝ }
+{
+    chroma_side(luma_units(b.width), b.x, n, ss_hor(b.layout))
+}
+
 pub fn chroma_wide(b: Block) -> ChromaUnit
     requires { ⌜ Sides b × (b .x .0 ≤ w4 b) ⌝ }
     ensures { λ r. ⌜ r .0 ≡ cbw4 b ⌝ }
 {
-    chroma_side(
-        luma_units(b.width),
-        b.x,
-        block_wide(b.size),
-        ss_hor(b.layout),
-    )
+    chroma_across(b, block_wide(b.size))
+}
+
+pub fn chroma_down(b: Block, n: LumaUnit) -> ChromaUnit
+    requires { ⌜ Sides b × (b .y .0 ≤ h4 b) × (n .0 ≡ high b) ⌝ }
+    ensures { λ r. ⌜ r .0 ≡ cbh4 b ⌝ }
+{
+    chroma_side(luma_units(b.height), b.y, n, ss_ver(b.layout))
 }
 
 pub fn chroma_high(b: Block) -> ChromaUnit
     requires { ⌜ Sides b × (b .y .0 ≤ h4 b) ⌝ }
     ensures { λ r. ⌜ r .0 ≡ cbh4 b ⌝ }
 {
-    chroma_side(
-        luma_units(b.height),
-        b.y,
-        block_high(b.size),
-        ss_ver(b.layout),
-    )
+    chroma_down(b, block_high(b.size))
 }
 
 // Of w by h visible units there are some.

@@ -1,5 +1,6 @@
 // The number of a block: of the tests, in their order, the first that it fails.
 use super::tests::block_bad;
+use super::tests::code_bad;
 use super::tests::contexts_bad;
 use super::tests::length_bad;
 use super::tests::shape_bad;
@@ -9,6 +10,8 @@ use units::numbers::CONTEXT;
 use units::numbers::DONE;
 use units::numbers::LENGTH;
 use units::numbers::SHAPE;
+use units::sizes::block_high;
+use units::sizes::block_wide;
 ghost use mathlib.Core.Path.{_≡_};
 ghost use Rattle.block.specs.Block.{lent};
 ghost use Rattle.block.specs.Tests.{number};
@@ -28,10 +31,15 @@ pub fn number(
     if shape_bad(b) {
         return SHAPE;
     }
-    if block_bad(b) {
+    if code_bad(b) {
         return BLOCK;
     }
-    if contexts_bad(b, above, left, above_uv, left_uv) {
+    let w = block_wide(b.size);
+    let h = block_high(b.size);
+    if block_bad(b, w, h) {
+        return BLOCK;
+    }
+    if contexts_bad(b, w, h, above, left, above_uv, left_uv) {
         return CONTEXT;
     }
     if length_bad(b, stride, levels.len(), masks.len()) {

@@ -1,9 +1,9 @@
 // The tests of the numbers 4 to 7.
 use crate::Block;
-use crate::chroma_high;
-use crate::chroma_wide;
-use crate::luma_high;
-use crate::luma_wide;
+use crate::chroma_across;
+use crate::chroma_down;
+use crate::luma_across;
+use crate::luma_down;
 use crate::seen;
 use units::LumaUnit;
 use units::chroma_units;
@@ -15,8 +15,6 @@ use units::layout::ss_ver;
 use units::luma_units;
 use units::memory::levels_ok;
 use units::memory::masks_ok;
-use units::sizes::block_high;
-use units::sizes::block_wide;
 use units::sizes::chroma_tx_high;
 use units::sizes::chroma_tx_wide;
 use units::sizes::luma_tx_high;
@@ -34,7 +32,7 @@ pub fn shape_bad(b: Block) -> bool
     (!layout_ok(b.layout) | !frame_ok(b.width, b.height)) | (b.chroma & !has_chroma(b.layout))
 }
 
-fn code_bad(b: Block) -> bool
+pub fn code_bad(b: Block) -> bool
     ensures { λ r. ⌜ r ≡ codeBad b ⌝ }
 {
     ((21 < b.size) | (18 < b.tx)) | (b.chroma & (18 < b.uvtx))
@@ -88,15 +86,10 @@ fn reference_bad(b: Block) -> bool
     b.inter & (7 < b.reference)
 }
 
-pub fn block_bad(b: Block) -> bool
-    requires { ⌜ (b .width .0 ≤ 16384) × (b .height .0 ≤ 16384) ⌝ }
+pub fn block_bad(b: Block, w: LumaUnit, h: LumaUnit) -> bool
+    requires { ⌜ ((b .width .0 ≤ 16384) × (b .height .0 ≤ 16384)) × ((b .size < 22) × (b .tx < 19) × (b .chroma ≡ true → b .uvtx < 19)) × (w .0 ≡ wide b) × (h .0 ≡ high b) ⌝ }
     ensures { λ r. ⌜ r ≡ blockBad b ⌝ }
 {
-    if code_bad(b) {
-        return true;
-    }
-    let w = block_wide(b.size);
-    let h = block_high(b.size);
     place_bad(b, w, h) | (tx_bad(b, w, h) | (max_tx_bad(b) | reference_bad(b)))
 }
 
@@ -114,38 +107,52 @@ pub fn context_bad(ctx: &[u8], n: usize, most: u8) -> bool
     false
 }
 
-fn luma_contexts_bad(b: Block, above: &[u8], left: &[u8]) -> bool
-    requires { ⌜ Sides b × (b .x .0 ≤ w4 b) × (b .y .0 ≤ h4 b) ⌝ }
+fn luma_contexts_bad(b: Block, across: LumaUnit, down: LumaUnit, above: &[u8], left: &[u8]) -> bool
+    requires { ⌜ Sides b × (b .x .0 ≤ w4 b) × (b .y .0 ≤ h4 b) × (across .0 ≡ wide b) × (down .0 ≡ high b) ⌝ }
     ensures { λ r. ⌜ r ≡ lumaContextsBad b (now (above .entry)) (now (left .entry)) ⌝ }
 {
-    let w = luma_wide(b).0;
-    let h = luma_high(b).0;
+    let w = luma_across(b, across).0;
+    let h = luma_down(b, down).0;
     if !seen(w, h) {
         return false;
     }
     context_bad(above, w, 2) | context_bad(left, h, 2)
 }
 
-fn chroma_contexts_bad(b: Block, above: &[u8], left: &[u8]) -> bool
-    requires { ⌜ Sides b × (b .x .0 ≤ w4 b) × (b .y .0 ≤ h4 b) ⌝ }
+fn chroma_contexts_bad(
+    b: Block,
+    across: LumaUnit,
+    down: LumaUnit,
+    above: &[u8],
+    left: &[u8],
+) -> bool
+    requires { ⌜ Sides b × (b .x .0 ≤ w4 b) × (b .y .0 ≤ h4 b) × (across .0 ≡ wide b) × (down .0 ≡ high b) ⌝ }
     ensures { λ r. ⌜ r ≡ chromaContextsBad b (now (above .entry)) (now (left .entry)) ⌝ }
 {
     if !b.chroma {
         return false;
     }
-    let w = chroma_wide(b).0;
-    let h = chroma_high(b).0;
+    let w = chroma_across(b, across).0;
+    let h = chroma_down(b, down).0;
     if !seen(w, h) {
         return false;
     }
     context_bad(above, w, 1) | context_bad(left, h, 1)
 }
 
-pub fn contexts_bad(b: Block, above: &[u8], left: &[u8], above_uv: &[u8], left_uv: &[u8]) -> bool
-    requires { ⌜ Sides b × (b .x .0 ≤ w4 b) × (b .y .0 ≤ h4 b) ⌝ }
+pub fn contexts_bad(
+    b: Block,
+    w: LumaUnit,
+    h: LumaUnit,
+    above: &[u8],
+    left: &[u8],
+    above_uv: &[u8],
+    left_uv: &[u8],
+) -> bool
+    requires { ⌜ Sides b × (b .x .0 ≤ w4 b) × (b .y .0 ≤ h4 b) × (w .0 ≡ wide b) × (h .0 ≡ high b) ⌝ }
     ensures { λ r. ⌜ r ≡ contextsBad b (now (above .entry)) (now (left .entry)) (now («above_uv» .entry)) (now («left_uv» .entry)) ⌝ }
 {
-    luma_contexts_bad(b, above, left) | chroma_contexts_bad(b, above_uv, left_uv)
+    luma_contexts_bad(b, w, h, above, left) | chroma_contexts_bad(b, w, h, above_uv, left_uv)
 }
 
 pub fn length_bad(b: Block, stride: usize, levels: usize, masks: usize) -> bool

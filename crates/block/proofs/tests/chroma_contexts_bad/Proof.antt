@@ -10,11 +10,11 @@ use Rattle.block.proofs.tests.chroma_contexts_bad.Tie as tie
 returns : tie.Need-returns
 returns c = rw (not-true (c .before .before .before .before .args .b .chroma) (c .if1 .taken)) refl
 
-chroma-wide-requires : tie.Need-chroma-wide-requires
-chroma-wide-requires c κs = search needs
+chroma-across-requires : tie.Need-chroma-across-requires
+chroma-across-requires c κs = search needs
 
-chroma-high-requires : tie.Need-chroma-high-requires
-chroma-high-requires c κs = search needs
+chroma-down-requires : tie.Need-chroma-down-requires
+chroma-down-requires c κs = search needs
 
 seen-requires : tie.Need-seen-requires
 seen-requires c κs = search needs
@@ -23,7 +23,7 @@ returns-2 : tie.Need-returns-2
 returns-2 c =
     let c₄ = c .before .before .before .before in
     let b = c₄ .before .before .before .before .args .b in
-    let s = seen-as _ _ (cbw4 b) (cbh4 b) _ (c .before .seen .ensures) (c .before .before .before .chroma-wide .ensures) (c .before .before .chroma-high .ensures) in
+    let s = seen-as _ _ (cbw4 b) (cbh4 b) _ (c .before .seen .ensures) (c .before .before .before .chroma-across .ensures) (c .before .before .chroma-down .ensures) in
     rw (and-on (b .chroma) _ (not-false (b .chroma) (c₄ .if1 .left)) (sym s ∙ not-true _ (c .if2 .taken))) refl
 
 context-bad-requires : tie.Need-context-bad-requires
@@ -37,8 +37,8 @@ returns-3 c =
     let c₃ = c .before .before .before in
     let c₆ = c₃ .before .before .before in
     let b = c₆ .before .before .before .before .args .b in
-    let w = c₃ .before .before .chroma-wide .ensures in
-    let h = c₃ .before .chroma-high .ensures in
+    let w = c₃ .before .before .chroma-across .ensures in
+    let h = c₃ .before .chroma-down .ensures in
     let s = seen-as _ _ (cbw4 b) (cbh4 b) _ (c₃ .seen .ensures) w h in
     rw (and-on (b .chroma) _ (not-false (b .chroma) (c₆ .if1 .left)) (sym s ∙ not-false _ (c .before .before .if2 .left)), c .before .context-bad .ensures, c .context-bad2 .ensures, w, h) refl
 
@@ -47,8 +47,8 @@ chroma-contexts-bad-spec =
     tie.close
     (tie.spec
     returns
-    chroma-wide-requires
-    chroma-high-requires
+    chroma-across-requires
+    chroma-down-requires
     seen-requires
     returns-2
     context-bad-requires

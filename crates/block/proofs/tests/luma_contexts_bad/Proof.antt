@@ -7,11 +7,11 @@ use borrow.Author.Needs.{needs}
 use Rattle.block.proofs.tests.luma_contexts_bad.Statement.{statement}
 use Rattle.block.proofs.tests.luma_contexts_bad.Tie as tie
 
-luma-wide-requires : tie.Need-luma-wide-requires
-luma-wide-requires c κs = search needs
+luma-across-requires : tie.Need-luma-across-requires
+luma-across-requires c κs = search needs
 
-luma-high-requires : tie.Need-luma-high-requires
-luma-high-requires c κs = search needs
+luma-down-requires : tie.Need-luma-down-requires
+luma-down-requires c κs = search needs
 
 seen-requires : tie.Need-seen-requires
 seen-requires c κs = search needs
@@ -19,7 +19,7 @@ seen-requires c κs = search needs
 returns : tie.Need-returns
 returns c =
     let b = c .before .before .before .before .before .before .args .b in
-    let s = seen-as _ _ (bw4 b) (bh4 b) _ (c .before .seen .ensures) (c .before .before .before .luma-wide .ensures) (c .before .before .luma-high .ensures) in
+    let s = seen-as _ _ (bw4 b) (bh4 b) _ (c .before .seen .ensures) (c .before .before .before .luma-across .ensures) (c .before .before .luma-down .ensures) in
     rw (sym s ∙ not-true _ (c .if1 .taken)) refl
 
 context-bad-requires : tie.Need-context-bad-requires
@@ -32,8 +32,8 @@ returns-2 : tie.Need-returns-2
 returns-2 c =
     let c₃ = c .before .before .before in
     let b = c₃ .before .before .before .before .before .args .b in
-    let w = c₃ .before .before .luma-wide .ensures in
-    let h = c₃ .before .luma-high .ensures in
+    let w = c₃ .before .before .luma-across .ensures in
+    let h = c₃ .before .luma-down .ensures in
     let s = seen-as _ _ (bw4 b) (bh4 b) _ (c₃ .seen .ensures) w h in
     rw (sym s ∙ not-false _ (c .before .before .if1 .left), c .before .context-bad .ensures, c .context-bad2 .ensures, w, h) refl
 
@@ -41,8 +41,8 @@ pub luma-contexts-bad-spec : {M : Type 1} → statement M
 luma-contexts-bad-spec =
     tie.close
     (tie.spec
-    luma-wide-requires
-    luma-high-requires
+    luma-across-requires
+    luma-down-requires
     seen-requires
     returns
     context-bad-requires
