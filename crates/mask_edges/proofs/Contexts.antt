@@ -1,5 +1,5 @@
 -- A context with its first places stored: what stands in them, and past them; by recursion on their number.
-use mathlib.Core.Path.{_≡_, refl, _∙_}
+use mathlib.Core.Path.{_≡_, refl, ap, _∙_}
 use mathlib.Core.Logic.{by-cases}
 use mathlib.Core.List.{List}
 use Prim.Native.Nat.{ℕ, zero, suc, _≤_, _<_}
@@ -26,3 +26,7 @@ module _ (f : ℕ → ℕ) (c : List ℕ) where
   unfolding stores
   stores-out zero v h = refl
   stores-out (suc n) v h = getD-set-other (stores n f c) n v (f n) 0 (λ e. omega arith) ∙ stores-out n v (omega arith)
+
+-- the next place is as it was
+pub stores-here : (f : ℕ → ℕ) (v : ℕ) (c₀ c : List ℕ) → c ≡ stores v f c₀ → getD c v 0 ≡ getD c₀ v 0
+stores-here f v c₀ c e = ap (λ (l : List ℕ). getD l v 0) e ∙ stores-out f c₀ v v (omega arith)

@@ -12,7 +12,7 @@ use Rattle.bits.specs.Mark.{mark, marks}
 use Rattle.bits.proofs.Marks.{marks-none, marks-more}
 use Rattle.mask_edges.specs.declared.edge.Pass.{Pass}
 use Rattle.mask_edges.specs.Folds.{bitIn, blockEdge, stepEdges, stores, gridPass, Edged, Held}
-use Rattle.mask_edges.proofs.Contexts.{stores-out}
+use Rattle.mask_edges.proofs.Contexts.{stores-here}
 
 -- a record that has been written to is as long as before
 pub held : (p : Pass) {n m : ℕ} → n ≡ m → Held p m → Held p n
@@ -52,7 +52,7 @@ module _ (p : Pass) (class : ℕ) (c ms : List ℕ) where
   pub edged-step : (v k e : ℕ) (ctx masks masks′ : List ℕ) → Edged p class c ms v ctx masks → k ≡ min class (getD ctx v 0) → e ≡ bitIn p 0 k v
       → masks′ ≡ mark masks e → Edged p class c ms (v + 1) (set ctx v class) masks′
   edged-step v k e ctx masks masks′ E ek ee em =
-      let g : getD ctx v 0 ≡ getD c v 0 = ap (λ (l : List ℕ). getD l v 0) (E .context) ∙ stores-out (λ _. class) c v v (omega arith) in
+      let g = stores-here (λ _. class) v c ctx (E .context) in
       record {
         context = stores-step (λ _. class) v class c ctx (E .context) refl;
         edge = block-step (bitIn p) (λ _. class) (λ i. getD c i 0) v k ms masks masks′ (E .edge) (ek ∙ ap (λ (n : ℕ). min class n) g) (em ∙ ap (mark masks) ee);

@@ -23,14 +23,19 @@ fn cell(txa: &[u8], pass: usize, what: usize, u: usize, v: usize) -> u8
     txa[at]
 }
 
-fn first_edges(masks: &mut [u16], txa: &[u8], p: Pass, ctx: &[u8])
+// The block's own edge; its context becomes the class of its last units.
+fn first_edges(masks: &mut [u16], txa: &[u8], p: Pass, ctx: &mut [u8])
     requires { ⌜ Held p (length (now masks)) × Told (now txa) p × (0 < p .across) × (p .along ≤ length (now ctx)) ⌝ }
-    ensures { λ _. ⌜ now (masks .exit) ≡ blockEdge (bitIn p) (p .along) (classIn (now (txa .entry)) p 0) (λ v. getD (now (ctx .entry)) v 0) (now (masks .entry)) ⌝ }
+    ensures masks { λ _. ⌜ now (masks .exit) ≡ blockEdge (bitIn p) (p .along) (classIn (now (txa .entry)) p 0) (λ v. getD (now (ctx .entry)) v 0) (now (masks .entry)) ⌝ }
+    ensures context { λ _. ⌜ now (ctx .exit) ≡ stores (p .along) (classIn (now (txa .entry)) p (p .across - 1)) (now (ctx .entry)) ⌝ }
 {
     let n = p.along;
+    let u = p.across - 1;
     for v in 0..n {
         let class = cell(txa, p.pass, CLASS, 0, v);
-        set_edge(masks, p, 0, least(class, ctx[v]), v);
+        let k = least(class, ctx[v]);
+        ctx[v] = cell(txa, p.pass, CLASS, u, v);
+        set_edge(masks, p, 0, k, v);
     }
 }
 
@@ -59,24 +64,12 @@ fn inner_edges(masks: &mut [u16], txa: &[u8], p: Pass)
     }
 }
 
-fn take_context(ctx: &mut [u8], txa: &[u8], p: Pass)
-    requires { ⌜ Told (now txa) p × (0 < p .across) × (p .across ≤ 32) × (p .along ≤ 32) × (p .along ≤ length (now ctx)) ⌝ }
-    ensures { λ _. ⌜ now (ctx .exit) ≡ stores (p .along) (classIn (now (txa .entry)) p (p .across - 1)) (now (ctx .entry)) ⌝ }
-{
-    let n = p.along;
-    let u = p.across - 1;
-    for v in 0..n {
-        ctx[v] = cell(txa, p.pass, CLASS, u, v);
-    }
-}
-
 pub fn mask_cells(masks: &mut [u16], txa: &[u8], p: Pass, skip: bool, ctx: &mut [u8])
     requires { ⌜ Held p (length (now masks)) × Told (now txa) p × (0 < p .across) × (p .along ≤ length (now ctx)) ⌝ }
     ensures masks { λ _. ⌜ now (masks .exit) ≡ cellPass (bitIn p) (p .across) (p .along) (classIn (now (txa .entry)) p) (stepIn (now (txa .entry)) p) skip (λ v. getD (now (ctx .entry)) v 0) (now (masks .entry)) ⌝ }
     ensures context { λ _. ⌜ now (ctx .exit) ≡ stores (p .along) (classIn (now (txa .entry)) p (p .across - 1)) (now (ctx .entry)) ⌝ }
 {
     first_edges(masks, txa, p, ctx);
-    take_context(ctx, txa, p);
     if skip {
         return;
     }

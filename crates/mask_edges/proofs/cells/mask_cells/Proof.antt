@@ -9,9 +9,6 @@ use Rattle.mask_edges.proofs.cells.mask_cells.Tie as tie
 first-edges-requires : tie.Need-first-edges-requires
 first-edges-requires c κs = search needs
 
-take-context-requires : tie.Need-take-context-requires
-take-context-requires c κs = search needs
-
 same-length : tie.Need-same-length
 same-length c = search needs
 
@@ -20,12 +17,11 @@ same-length-2 c = search needs
 
 returns : tie.Need-returns
 returns c =
-    let c₃ = c .before .before .before in
-    let c₇ = c₃ .before .before .before .before in
-    let c₁₃ = c₇ .before .before .before .before .before .before in (
-      cells-skipped (bitIn (c₁₃ .args .p)) (c₁₃ .args .p .across) (classIn (now (c₁₃ .args .txa)) (c₁₃ .args .p))
-          (stepIn (now (c₁₃ .args .txa)) (c₁₃ .args .p)) (c₁₃ .args .p .along) _ _ _ (c₇ .first-edges .ensures) (c .if1 .taken),
-      c₃ .take-context .ensures,
+    let c₅ = c .before .before .before .before .before in
+    let a = c₅ .before .before .before .before .before .before .args in (
+      cells-skipped (bitIn (a .p)) (a .p .across) (classIn (now (a .txa)) (a .p)) (stepIn (now (a .txa)) (a .p)) (a .p .along) _ _ _
+          (c₅ .first-edges .ensures .0) (c .if1 .taken),
+      c₅ .first-edges .ensures .1,
     )
 
 inner-edges-requires : tie.Need-inner-edges-requires
@@ -40,12 +36,11 @@ same-length-4 c = search needs
 returns-2 : tie.Need-returns-2
 returns-2 c =
     let c₄ = c .before .before .before .before in
-    let c₇ = c₄ .before .before .before in
-    let c₁₁ = c₇ .before .before .before .before in
-    let c₁₇ = c₁₁ .before .before .before .before .before .before in (
-      cells-walked (bitIn (c₁₇ .args .p)) (c₁₇ .args .p .across) (classIn (now (c₁₇ .args .txa)) (c₁₇ .args .p)) (stepIn (now (c₁₇ .args .txa)) (c₁₇ .args .p))
-          (c₁₇ .args .p .along) _ _ _ (c₁₁ .first-edges .ensures) _ (c₄ .if1 .left) (c .before .before .inner-edges .ensures),
-      c₇ .take-context .ensures,
+    let c₉ = c₄ .before .before .before .before .before in
+    let a = c₉ .before .before .before .before .before .before .args in (
+      cells-walked (bitIn (a .p)) (a .p .across) (classIn (now (a .txa)) (a .p)) (stepIn (now (a .txa)) (a .p)) (a .p .along) _ _ _
+          (c₉ .first-edges .ensures .0) _ (c₄ .if1 .left) (c .before .before .inner-edges .ensures),
+      c₉ .first-edges .ensures .1,
     )
 
 pub mask-cells-spec : {M : Type 1} → statement M
@@ -53,7 +48,6 @@ mask-cells-spec =
     tie.close
     (tie.spec
     first-edges-requires
-    take-context-requires
     same-length
     same-length-2
     returns
