@@ -73,12 +73,14 @@ pub static GROUPS: [Group; 22] = [
     ),
 ];
 
+const PIECES: usize = 10; // the first group of pieces; those of lines end before the last group
+
 /// For few frames of one size: lines and pieces alone must fill their cells.
 pub static LARGE: [Group; GROUPS.len()] = {
     let mut groups = GROUPS;
     let mut n = 0;
     while n < groups.len() {
-        if n == 0 || !matches!(groups[n].least, Least::Share) {
+        if n < PIECES || n == groups.len() - 1 {
             groups[n].least = Least::Nothing;
         }
         n += 1;
