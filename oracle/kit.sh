@@ -6,7 +6,7 @@ tools=$own/toolchain
 target=x86_64-unknown-linux-gnu
 
 compile() { # FILE.c FILE.o
-    "$tools/bin/clang" -target $target -O2 -fPIE -Wall -Wextra -ffreestanding -nostdinc -isystem "$here/freestanding" \
+    "$tools/bin/clang" -target $target -O2 -fPIE -Wall -Wextra -Wno-unused-function -ffreestanding -nostdinc -isystem "$here/freestanding" \
         -I "$root/include" -c "$1" -o "$2"
 }
 
