@@ -104,15 +104,16 @@ run-top n k h l = omega (arith, pow-pos (h + h), pow-mono {i = n + k} {j = h + h
 
 pub halves-marks : (ms : List ℕ) (n k h at lo hi : ℕ) (f : ℕ → ℕ) → Words ms → k + n ≤ 2 * h → h ≤ 16 → at + 1 < length ms → lo < 2 ^ 16 → hi < 2 ^ 16
     → lo ≡ (2 ^ (n + k) - 2 ^ k) % 2 ^ h → hi ≡ (2 ^ (n + k) - 2 ^ k) / 2 ^ h → ((v : ℕ) → f v ≡ 16 * (at + (k + v) / h) + (k + v) % h)
-    → ((v : ℕ) → v < n → f v / 16 < length ms)
-    → set (set ms at (bitOr (getD ms at 0) lo)) (at + 1) (bitOr (getD (set ms at (bitOr (getD ms at 0) lo)) (at + 1) 0) hi) ≡ marks n f ms
-halves-marks ms n k h at lo hi f hw hk low hl ll lh el eh ef hf =
-    isSet-ext (set m (at + 1) (bitOr (getD m (at + 1) 0) hi)) (marks n f ms) (simp length-set (sym (length-marks n f ms)))
+    → ((v : ℕ) → v < n → f v / 16 < length ms) → {m m′ : List ℕ} → m ≡ set ms at (bitOr (getD ms at 0) lo)
+    → m′ ≡ set m (at + 1) (bitOr (getD m (at + 1) 0) hi) → m′ ≡ marks n f ms
+halves-marks ms n k h at lo hi f hw hk low hl ll lh el eh ef hf e e′ =
+    e′ ∙ rw e
+    (isSet-ext (set m (at + 1) (bitOr (getD m (at + 1) 0) hi)) (marks n f ms) (simp length-set (sym (length-marks n f ms)))
     (words-or m (at + 1) hi lh (words-or ms at lo ll hw)) (words-marks n f ms hw)
     (λ x. isSet-or m (at + 1) hi x (rw (length-set ms at (bitOr (getD ms at 0) lo)) hl)
     ∙ ap (λ (b : Bool). b || (eqb (at + 1) (x / 16) && hasBit hi (x % 16))) (isSet-or ms at lo x (omega arith))
     ∙ or-assoc (isSet ms x) (eqb at (x / 16) && hasBit lo (x % 16)) (eqb (at + 1) (x / 16) && hasBit hi (x % 16))
-    ∙ ap (λ (b : Bool). isSet ms x || b) (both n k h at lo hi f hk low el eh ef x) ∙ sym (isSet-marks n f ms hf x))
+    ∙ ap (λ (b : Bool). isSet ms x || b) (both n k h at lo hi f hk low el eh ef x) ∙ sym (isSet-marks n f ms hf x)))
   where
     m : List ℕ
     m = set ms at (bitOr (getD ms at 0) lo)

@@ -44,7 +44,7 @@ module _ (pass unit class : ℕ) where
     unfolding edgeBit
     bit-low h = let k = low-half half q h in rw (k .0, k .1, e) refl
 
-    pub bit-high : half ≤ q → q < 2 * half → 16 * w + 16 + (q - half) ≡ edgeBit chroma half pass unit class q
+    pub bit-high : half ≤ q → q < 2 * half → 16 * (w + 1) + (q - half) ≡ edgeBit chroma half pass unit class q
     unfolding edgeBit
     bit-high l h = let k = high-half half q l h in rw (k .0, k .1) (omega (arith, word-half chroma 1))
 

@@ -5,7 +5,8 @@ use units::memory::chroma_word;
 use units::memory::luma_word;
 ghost use mathlib.Core.Path.{_≡_};
 ghost use Prim.Native.Nat.{_+_, _-_, _*_, _/_, _%_, _^_, _<_, _≤_, min};
-ghost use lib.ListN.{length};
+ghost use lib.Bits.{bitOr};
+ghost use lib.ListN.{length, getD, set};
 ghost use Rattle.bits.specs.Mark.{mark, marks};
 ghost use Rattle.mask_edges.specs.Folds.{edgeWord, classes, bitIn, columnsOf, rowsOf, Held};
 
@@ -66,13 +67,28 @@ pub fn edge_word(chroma: bool, pass: usize, unit: usize, class: u8) -> usize
     luma_word(pass, LumaUnit(unit), class, 0)
 }
 
+// A mask word is stored only here, and only to set a bit.
+fn set_bits(word: &mut u16, bits: u16)
+    requires { ⌜ 0 < bits ⌝ }
+    ensures { λ _. ⌜ now (word .exit) ≡ bitOr (now (word .entry)) bits ⌝ }
+{
+    *word = *word | bits;
+}
+
+// Bit k of word `at`.
+fn set_at(masks: &mut [u16], at: usize, k: usize)
+    requires { ⌜ (at < length (now masks)) × (k < 16) ⌝ }
+    ensures { λ _. ⌜ now (masks .exit) ≡ mark (now (masks .entry)) (16 * at + k) ⌝ }
+{
+    set_bits(&mut masks[at], bits::bit16(k as u32));
+}
+
 // Bit k of the word of a class, two to a class from `at` on.
 pub fn set_in(masks: &mut [u16], at: usize, class: u8, k: usize)
     requires { ⌜ (at + 2 * class < length (now masks)) × (k < 16) ⌝ }
     ensures { λ _. ⌜ now (masks .exit) ≡ mark (now (masks .entry)) (16 * (at + 2 * class) + k) ⌝ }
 {
-    let w = at + 2 * class as usize;
-    masks[w] = masks[w] | bits::bit16(k as u32);
+    set_at(masks, at + 2 * class as usize, k);
 }
 
 // The block's edge at (u, v).
@@ -80,13 +96,13 @@ pub fn set_edge(masks: &mut [u16], p: Pass, u: usize, class: u8, v: usize)
     requires { ⌜ Held p (length (now masks)) × (class < classes (p .chroma)) × (u < p .across) × (v < p .along) ⌝ }
     ensures { λ _. ⌜ now (masks .exit) ≡ mark (now (masks .entry)) (bitIn p u class v) ⌝ }
 {
-    let e = 16 * edge_word(p.chroma, p.pass, p.unit + u, class);
+    let at = edge_word(p.chroma, p.pass, p.unit + u, class);
     let q = p.place + v;
     if q < p.half {
-        bits::set_bit(masks, e + q);
+        set_at(masks, at, q);
         return;
     }
-    bits::set_bit(masks, e + 16 + (q - p.half));
+    set_at(masks, at + 1, q - p.half);
 }
 
 fn low_half(w: u64, half: u32) -> u16
@@ -103,6 +119,16 @@ fn high_half(w: u64, half: u32) -> u16
     (w >> half) as u16
 }
 
+// No bits, no store: the other half may be another tile's.
+fn set_half(masks: &mut [u16], at: usize, bits: u16)
+    requires { ⌜ at < length (now masks) ⌝ }
+    ensures { λ _. ⌜ now (masks .exit) ≡ set (now (masks .entry)) at (bitOr (getD (now (masks .entry)) at 0) bits) ⌝ }
+{
+    if 0 < bits {
+        set_bits(&mut masks[at], bits);
+    }
+}
+
 // The block's edges at u, all along it: two words at once.
 pub fn set_edges(masks: &mut [u16], p: Pass, u: usize, class: u8)
     requires { ⌜ Held p (length (now masks)) × (class < classes (p .chroma)) × (u < p .across) ⌝ }
@@ -112,6 +138,6 @@ pub fn set_edges(masks: &mut [u16], p: Pass, u: usize, class: u8)
     let w = bits::run_word(p.place as u32, p.along as u32);
     let lo = low_half(w, p.half as u32);
     let hi = high_half(w, p.half as u32);
-    masks[at] = masks[at] | lo;
-    masks[at + 1] = masks[at + 1] | hi;
+    set_half(masks, at, lo);
+    set_half(masks, at + 1, hi);
 }
