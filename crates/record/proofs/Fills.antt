@@ -21,6 +21,7 @@ use Rattle.block.specs.Block.{w4, h4, ssx, ssy, bw4, bh4, cbw4, cbh4, seesChrom
 use Rattle.record.specs.Record.{valueOf, fillRow, fillLevels, lumaLevels, chromaLevels, Fitting}
 use Rattle.record.specs.Recorded.{Seen, luma, chroma, Levels}
 use Rattle.record.proofs.Rooms.{luma-cut, luma-lines, chroma-cut, chroma-lines}
+use Rattle.record.proofs.Stores.{length-row}
 
 module _ (f : ℕ → ℕ) where
   -- ---- the two bytes of a unit
@@ -43,16 +44,11 @@ module _ (f : ℕ → ℕ) where
   -- ---- a row of units
 
   module _ (at : ℕ) (l : List ℕ) where
-    length-row : (w : ℕ) → length (fillRow at w (f 0) (f 1) l) ≡ length l
-    unfolding fillRow
-    length-row zero = refl
-    length-row (suc w) = simp length-set (length-row w)
-
     row-stored : (w i k : ℕ) → at + 4 * w ≤ length l + 2 → i < w → k < 2 → getD (fillRow at w (f 0) (f 1) l) (at + 4 * i + k) 0 ≡ f k
     unfolding fillRow
     row-stored zero i k b q h = absurd (omega arith)
     row-stored (suc w) i k b q h =
-        by-cases (ℕ-discrete i w) (λ e. rw e (pair-in (fillRow at w (f 0) (f 1) l) (at + 4 * w) k (rw (length-row w) (omega arith)) h))
+        by-cases (ℕ-discrete i w) (λ e. rw e (pair-in (fillRow at w (f 0) (f 1) l) (at + 4 * w) k (rw (length-row at (f 0) (f 1) w l) (omega arith)) h))
         (λ g. pair-out (fillRow at w (f 0) (f 1) l) (at + 4 * w) (at + 4 * i + k) (λ m n e. omega arith) ∙ row-stored w i k (omega arith) (omega arith) h)
 
     row-kept : (w j : ℕ) → ((i k : ℕ) → i < w → k < 2 → ¬ (j ≡ at + 4 * i + k)) → getD (fillRow at w (f 0) (f 1) l) j 0 ≡ getD l j 0
@@ -67,7 +63,7 @@ module _ (f : ℕ → ℕ) where
     length-rows : (h : ℕ) → length (fillLevels at stride w h (f 0) (f 1) l) ≡ length l
     unfolding fillLevels
     length-rows zero = refl
-    length-rows (suc h) = length-row (at + 4 * (h * stride)) (fillLevels at stride w h (f 0) (f 1) l) w ∙ length-rows h
+    length-rows (suc h) = length-row (at + 4 * (h * stride)) (f 0) (f 1) w (fillLevels at stride w h (f 0) (f 1) l) ∙ length-rows h
 
     rows-stored : (h i j k : ℕ) → w ≤ stride → ((j : ℕ) → j < h → at + 4 * (j * stride + w) ≤ length l + 2) → i < w → j < h → k < 2
         → getD (fillLevels at stride w h (f 0) (f 1) l) (at + 4 * (j * stride) + 4 * i + k) 0 ≡ f k

@@ -21,13 +21,13 @@ fn value(values: &[u8; 64], kind: usize, b: Block) -> u8
     values[(kind * 8 + b.reference) * 2 + b.mode]
 }
 
-fn fill_row(levels: &mut [u8], at: usize, w: usize, u: u8, v: u8)
-    requires { ⌜ at + 4 * w ≤ length (now levels) + 2 ⌝ }
-    ensures { λ _. ⌜ now (levels .exit) ≡ fillRow at w u v (now (levels .entry)) ⌝ }
+fn fill_row(row: &mut [u8], w: usize, u: u8, v: u8)
+    requires { ⌜ 4 * w ≤ length (now row) + 2 ⌝ }
+    ensures { λ _. ⌜ now (row .exit) ≡ fillRow 0 w u v (now (row .entry)) ⌝ }
 {
     for i in 0..w {
-        levels[at + 4 * i] = u;
-        levels[at + 4 * i + 1] = v;
+        row[4 * i] = u;
+        row[4 * i + 1] = v;
     }
 }
 
@@ -37,7 +37,9 @@ fn fill_levels(levels: &mut [u8], at: usize, stride: usize, w: usize, h: usize, 
     ensures { λ _. ⌜ now (levels .exit) ≡ fillLevels at stride w h u v (now (levels .entry)) ⌝ }
 {
     for j in 0..h {
-        fill_row(levels, at + 4 * (j * stride), w, u, v);
+        let from = at + 4 * (j * stride);
+        let to = from + 4 * (w - 1) + 2;
+        fill_row(&mut levels[from..to], w, u, v);
     }
 }
 
