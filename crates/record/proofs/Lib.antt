@@ -1,5 +1,6 @@
 pub mod Rooms
 pub mod Stores
+pub mod Nears
 pub mod Sounds
 pub mod Fills
 pub mod Frames

@@ -47,7 +47,9 @@ fn intra_luma(
         return;
     }
     luma_levels(levels, stride, values, b, w, h);
-    intra_masks(masks, b, w, h, above, left);
+    let wide = w.0;
+    let high = h.0;
+    intra_masks(masks, b, w, h, &mut above[..wide], &mut left[..high]);
 }
 
 fn inter_luma(
@@ -72,7 +74,17 @@ fn inter_luma(
         return;
     }
     luma_levels(levels, stride, values, b, w, h);
-    inter_masks(masks, b, w, h, tx_masks, above, left);
+    let wide = w.0;
+    let high = h.0;
+    inter_masks(
+        masks,
+        b,
+        w,
+        h,
+        tx_masks,
+        &mut above[..wide],
+        &mut left[..high],
+    );
 }
 
 fn chroma_pair(
@@ -99,7 +111,9 @@ fn chroma_pair(
         return;
     }
     chroma_levels(levels, stride, values, b, w, h);
-    chroma_masks(masks, b, w, h, above, left);
+    let wide = w.0;
+    let high = h.0;
+    chroma_masks(masks, b, w, h, &mut above[..wide], &mut left[..high]);
 }
 
 pub fn record_intra(

@@ -1,11 +1,28 @@
--- By whether the pair is given and chroma units are seen.
+-- By whether the pair is given and chroma units are seen; lending the units seen of a context is lending all.
 use borrow.Author.Tests.{not-true, not-false}
-use mathlib.Core.Path.{refl, sym, _∙_}
-use Rattle.block.specs.Block.{cbw4, cbh4}
+use denote.Ref.{now}
+use mathlib.Core.Bool.{true}
+use mathlib.Core.Path.{_≡_, refl, sym, _∙_}
+use Prim.Native.Nat.{_≤_}
+use native.Mathlib.Nat.{le-of-eq}
+use lib.ListN.{length}
+use lib.Seq.{length-take-le}
+use Rattle.block.specs.Block.{cbw4, cbh4, seesChroma}
 use Rattle.block.proofs.Passed.{seen-as, and-on}
+use Rattle.record.proofs.Nears.{chroma-near, context-put}
 use borrow.Author.Needs.{needs}
 use Rattle.record.proofs.chroma_pair.Statement.{statement}
 use Rattle.record.proofs.chroma_pair.Tie as tie
+
+sees : (d : tie.Else2) → seesChroma (d .before .before .before .before .before .before .before .before .before .before .args .b) ≡ true
+sees d =
+    let b = d .before .before .before .before .before .before .before .before .before .before .args .b in
+    let s = seen-as _ _ (cbw4 b) (cbh4 b) _ (d .before .seen .ensures) (d .before .before .before .chroma-wide .ensures) (d .before .before .chroma-high .ensures) in
+    and-on (b .chroma) _ (not-false _ (d .before .before .before .before .if1 .left)) (sym s ∙ not-false _ (d .if2 .left))
+
+room : (d : tie.Else2)
+    → (d .before .before .before .chroma-wide .result .0 ≤ length (now (d .before .before .before .before .before .before .before .before .before .before .args .above))) × (d .before .before .chroma-high .result .0 ≤ length (now (d .before .before .before .before .before .before .before .before .before .before .args .left)))
+room d = let n = d .before .before .before .before .before .before .before .before .before .before .pre .4 (sees d) in (rw (d .before .before .before .chroma-wide .ensures) (n .0), rw (d .before .before .chroma-high .ensures) (n .1))
 
 returns : tie.Need-returns
 returns c = rw (not-true (c .before .before .before .before .before .before .args .b .chroma) (c .if1 .taken)) (refl, (refl, (refl, refl)))
@@ -27,21 +44,37 @@ returns-2 c =
 
 chroma-levels-requires : tie.Need-chroma-levels-requires
 chroma-levels-requires c κs =
-    let a = c .before .before .before .before .before .before .before .before .before .before .before in
-    let s = seen-as _ _ (cbw4 (a .args .b)) (cbh4 (a .args .b)) _ (c .before .before .seen .ensures) (c .before .before .before .before .chroma-wide .ensures) (c .before .before .before .chroma-high .ensures) in
-    let e = and-on (a .args .b .chroma) _ (not-false _ (c .before .before .before .before .before .if1 .left)) (sym s ∙ not-false _ (c .before .if2 .left)) in
-    (a .pre .0, e, a .pre .1, a .pre .2, c .before .before .before .before .chroma-wide .ensures, c .before .before .before .chroma-high .ensures)
+    let d = c .before in
+    let a = d .before .before .before .before .before .before .before .before .before .before in
+    (a .pre .0, sees d, a .pre .1, a .pre .2, d .before .before .before .chroma-wide .ensures, d .before .before .chroma-high .ensures)
+
+slice-relend-prefix-chroma-masks : tie.Need-slice-relend-prefix-chroma-masks
+slice-relend-prefix-chroma-masks c = room (c .before .before .before .before .before) .0
+
+slice-aggregate-chroma-masks : tie.Need-slice-aggregate-chroma-masks
+slice-aggregate-chroma-masks c = sym (length-take-le _ (now (c .before .before .before .before .before .before .before .before .before .before .before .before .before .before .before .before .args .above)) (room (c .before .before .before .before .before .before) .0))
+
+slice-relend-prefix-chroma-masks-2 : tie.Need-slice-relend-prefix-chroma-masks-2
+slice-relend-prefix-chroma-masks-2 c = room (c .before .before .before .before .before .before) .1
+
+slice-aggregate-chroma-masks-2 : tie.Need-slice-aggregate-chroma-masks-2
+slice-aggregate-chroma-masks-2 c = sym (length-take-le _ (now (c .before .before .before .before .before .before .before .before .before .before .before .before .before .before .before .before .before .args .left)) (room (c .before .before .before .before .before .before .before) .1))
 
 chroma-masks-requires : tie.Need-chroma-masks-requires
 chroma-masks-requires c κs =
-    let c₈ = c .before .before .before .before .before .before .before .before in
-    let a = c .before .before .before .before .before .before .before .before .before .before .before .before .before .before .before .before .before in
-    let w = c₈ .before .before .chroma-wide .ensures in
-    let h = c₈ .before .chroma-high .ensures in
-    let s = seen-as _ _ (cbw4 (a .args .b)) (cbh4 (a .args .b)) _ (c₈ .seen .ensures) w h in
-    let e = and-on (a .args .b .chroma) _ (not-false _ (c₈ .before .before .before .if1 .left)) (sym s ∙ not-false _ (c .before .before .before .before .before .before .before .if2 .left)) in
-    let n = a .pre .4 e in
-    (a .pre .0 .fits, e, a .pre .3, n .0, n .1, w, h)
+    let d = c .before .before .before .before .before .before .before in
+    let a = d .before .before .before .before .before .before .before .before .before .before in
+    let r = room d in
+    let w = d .before .before .before .chroma-wide .ensures in
+    let h = d .before .before .chroma-high .ensures in (
+      a .pre .0 .fits,
+      sees d,
+      a .pre .3,
+      le-of-eq (sym (length-take-le _ (now (a .args .above)) (r .0) ∙ w)),
+      le-of-eq (sym (length-take-le _ (now (a .args .left)) (r .1) ∙ h)),
+      w,
+      h,
+    )
 
 same-length : tie.Need-same-length
 same-length c = search needs
@@ -56,7 +89,19 @@ same-length-4 : tie.Need-same-length-4
 same-length-4 c = search needs
 
 returns-3 : tie.Need-returns-3
-returns-3 c = search needs
+returns-3 c =
+    let d = c .before .before .before .before .before .before .before .before .before .before .before .before .before .before in
+    let a = d .before .before .before .before .before .before .before .before .before .before .args in
+    let n = d .before .before .before .before .before .before .before .before .before .before .pre .4 (sees d) in
+    let w = d .before .before .before .chroma-wide .ensures in
+    let h = d .before .before .chroma-high .ensures in
+    let e = c .before .before .before .before .before .before .chroma-masks .ensures in (
+      c .before .before .before .before .before .before .before .before .before .before .before .before .chroma-levels .ensures,
+      (
+        e .0 ∙ chroma-near (a .b) _ _ (now (a .above)) (now (a .left)) (now (a .masks)) w h,
+        (context-put (seesChroma (a .b)) _ _ _ (now (a .above)) w (n .0) (e .1 .0), context-put (seesChroma (a .b)) _ _ _ (now (a .left)) h (n .1) (e .1 .1)),
+      ),
+    )
 
 pub chroma-pair-spec : {M : Type 1} → statement M
 chroma-pair-spec =
@@ -68,6 +113,10 @@ chroma-pair-spec =
     seen-requires
     returns-2
     chroma-levels-requires
+    slice-relend-prefix-chroma-masks
+    slice-aggregate-chroma-masks
+    slice-relend-prefix-chroma-masks-2
+    slice-aggregate-chroma-masks-2
     chroma-masks-requires
     same-length
     same-length-2

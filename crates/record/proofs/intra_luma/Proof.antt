@@ -1,11 +1,27 @@
--- By whether luma units are seen.
+-- By whether luma units are seen; lending the units seen of a context is lending all.
 use borrow.Author.Tests.{not-true, not-false}
-use mathlib.Core.Path.{refl, sym, _∙_}
-use Rattle.block.specs.Block.{bw4, bh4}
+use denote.Ref.{now}
+use mathlib.Core.Bool.{true}
+use mathlib.Core.Path.{_≡_, refl, sym, _∙_}
+use Prim.Native.Nat.{_≤_}
+use native.Mathlib.Nat.{le-of-eq}
+use lib.ListN.{length}
+use lib.Seq.{length-take-le}
+use Rattle.block.specs.Block.{bw4, bh4, seesLuma}
 use Rattle.block.proofs.Passed.{seen-as}
+use Rattle.record.proofs.Nears.{intra-near, context-put}
 use borrow.Author.Needs.{needs}
 use Rattle.record.proofs.intra_luma.Statement.{statement}
 use Rattle.record.proofs.intra_luma.Tie as tie
+
+sees : (d : tie.Else1) → seesLuma (d .before .before .before .before .before .before .before .before .args .b) ≡ true
+sees d =
+    let b = d .before .before .before .before .before .before .before .before .args .b in
+    sym (seen-as _ _ (bw4 b) (bh4 b) _ (d .before .seen .ensures) (d .before .before .before .luma-wide .ensures) (d .before .before .luma-high .ensures)) ∙ not-false _ (d .if1 .left)
+
+room : (d : tie.Else1)
+    → (d .before .before .before .luma-wide .result .0 ≤ length (now (d .before .before .before .before .before .before .before .before .args .above))) × (d .before .before .luma-high .result .0 ≤ length (now (d .before .before .before .before .before .before .before .before .args .left)))
+room d = let n = d .before .before .before .before .before .before .before .before .pre .4 (sees d) in (rw (d .before .before .before .luma-wide .ensures) (n .0), rw (d .before .before .luma-high .ensures) (n .1))
 
 luma-wide-requires : tie.Need-luma-wide-requires
 luma-wide-requires c κs = search needs
@@ -24,19 +40,37 @@ returns c =
 
 luma-levels-requires : tie.Need-luma-levels-requires
 luma-levels-requires c κs =
-    let a = c .before .before .before .before .before .before .before .before .before in
-    let s = seen-as _ _ (bw4 (a .args .b)) (bh4 (a .args .b)) _ (c .before .before .seen .ensures) (c .before .before .before .before .luma-wide .ensures) (c .before .before .before .luma-high .ensures) in
-    (a .pre .0, sym s ∙ not-false _ (c .before .if1 .left), a .pre .1, a .pre .2, c .before .before .before .before .luma-wide .ensures, c .before .before .before .luma-high .ensures)
+    let d = c .before in
+    let a = d .before .before .before .before .before .before .before .before in
+    (a .pre .0, sees d, a .pre .1, a .pre .2, d .before .before .before .luma-wide .ensures, d .before .before .luma-high .ensures)
+
+slice-relend-prefix-intra-masks : tie.Need-slice-relend-prefix-intra-masks
+slice-relend-prefix-intra-masks c = room (c .before .before .before .before .before) .0
+
+slice-aggregate-intra-masks : tie.Need-slice-aggregate-intra-masks
+slice-aggregate-intra-masks c = sym (length-take-le _ (now (c .before .before .before .before .before .before .before .before .before .before .before .before .before .before .args .above)) (room (c .before .before .before .before .before .before) .0))
+
+slice-relend-prefix-intra-masks-2 : tie.Need-slice-relend-prefix-intra-masks-2
+slice-relend-prefix-intra-masks-2 c = room (c .before .before .before .before .before .before) .1
+
+slice-aggregate-intra-masks-2 : tie.Need-slice-aggregate-intra-masks-2
+slice-aggregate-intra-masks-2 c = sym (length-take-le _ (now (c .before .before .before .before .before .before .before .before .before .before .before .before .before .before .before .args .left)) (room (c .before .before .before .before .before .before .before) .1))
 
 intra-masks-requires : tie.Need-intra-masks-requires
 intra-masks-requires c κs =
-    let c₈ = c .before .before .before .before .before .before .before .before in
-    let a = c .before .before .before .before .before .before .before .before .before .before .before .before .before .before .before in
-    let w = c₈ .before .before .luma-wide .ensures in
-    let h = c₈ .before .luma-high .ensures in
-    let e = sym (seen-as _ _ (bw4 (a .args .b)) (bh4 (a .args .b)) _ (c₈ .seen .ensures) w h) ∙ not-false _ (c .before .before .before .before .before .before .before .if1 .left) in
-    let n = a .pre .4 e in
-    (a .pre .0 .fits, e, a .pre .3, n .0, n .1, w, h)
+    let d = c .before .before .before .before .before .before .before in
+    let a = d .before .before .before .before .before .before .before .before in
+    let r = room d in
+    let w = d .before .before .before .luma-wide .ensures in
+    let h = d .before .before .luma-high .ensures in (
+      a .pre .0 .fits,
+      sees d,
+      a .pre .3,
+      le-of-eq (sym (length-take-le _ (now (a .args .above)) (r .0) ∙ w)),
+      le-of-eq (sym (length-take-le _ (now (a .args .left)) (r .1) ∙ h)),
+      w,
+      h,
+    )
 
 same-length : tie.Need-same-length
 same-length c = search needs
@@ -51,7 +85,19 @@ same-length-4 : tie.Need-same-length-4
 same-length-4 c = search needs
 
 returns-2 : tie.Need-returns-2
-returns-2 c = search needs
+returns-2 c =
+    let d = c .before .before .before .before .before .before .before .before .before .before .before .before .before .before in
+    let a = d .before .before .before .before .before .before .before .before .args in
+    let n = d .before .before .before .before .before .before .before .before .pre .4 (sees d) in
+    let w = d .before .before .before .luma-wide .ensures in
+    let h = d .before .before .luma-high .ensures in
+    let e = c .before .before .before .before .before .before .intra-masks .ensures in (
+      c .before .before .before .before .before .before .before .before .before .before .before .before .luma-levels .ensures,
+      (
+        e .0 ∙ intra-near (a .b) _ _ (now (a .above)) (now (a .left)) (now (a .masks)) w h,
+        (context-put (seesLuma (a .b)) _ _ _ (now (a .above)) w (n .0) (e .1 .0), context-put (seesLuma (a .b)) _ _ _ (now (a .left)) h (n .1) (e .1 .1)),
+      ),
+    )
 
 pub intra-luma-spec : {M : Type 1} → statement M
 intra-luma-spec =
@@ -62,6 +108,10 @@ intra-luma-spec =
     seen-requires
     returns
     luma-levels-requires
+    slice-relend-prefix-intra-masks
+    slice-aggregate-intra-masks
+    slice-relend-prefix-intra-masks-2
+    slice-aggregate-intra-masks-2
     intra-masks-requires
     same-length
     same-length-2
