@@ -3,7 +3,7 @@ use mathlib.Core.Path.{_≡_, refl, sym, ap, ap₂, _∙_}
 use mathlib.Core.Bool.{Bool, true, false, not, _&&_, _||_, cond, and-false}
 use Prim.Native.Nat.{ℕ, zero, suc, _-_, _^_, _≤_, _<_}
 use native.Mathlib.Omega.{arith}
-use lib.Bits.{bitAnd, bitOr, and-le-l, and-le-r, or-lt}
+use lib.Bits.{bitAnd, bitOr, and-le-r, or-lt}
 use lib.Dec.{eqb, ltb}
 use Rattle.loops.specs.Any.{anyBelow}
 use Rattle.loops.proofs.Anys.{any-nil, any-same, any-or, any-swap}
@@ -57,32 +57,24 @@ module _ (words : ℕ → ℕ → ℕ) (n end : ℕ) (t : Track) (e : t ≡ trac
       go true = hasBit-nil q
       go false = refl
 
-  one-bit : (i s r l : Bool) → (((i && s) && (r && not l)) || ((not i && s) && r)) ≡ (r && (s && not (i && l)))
-  one-bit true true true true = refl
-  one-bit true true true false = refl
-  one-bit true true false l = refl
-  one-bit true false true l = refl
-  one-bit true false false l = refl
-  one-bit false true true l = refl
-  one-bit false true false l = refl
-  one-bit false false true l = refl
-  one-bit false false false l = refl
+  one-bit : (i s l : Bool) → (((i && s) && not l) || (not i && s)) ≡ (s && not (i && l))
+  one-bit true true true = refl
+  one-bit true true false = refl
+  one-bit true false l = refl
+  one-bit false true l = refl
+  one-bit false false l = refl
 
-  pub answer-out : (row : ℕ) → row < 2 ^ 32
-      → not (eqb (bitOr (bitAnd (t .all) (bitAnd row ((2 ^ 32 - 1) - live))) (bitAnd (t .past) row)) 0)
-      ≡ anyBelow end (λ u. anyBelow 32 (λ q. hasBit row q && (hasBit (every u) q && not (ltb u n && hasBit live q))))
-  answer-out row hr =
-      word-some 32 (bitOr (bitAnd (t .all) off) (bitAnd (t .past) row))
-      (or-lt 32 (bitAnd (t .all) off) (bitAnd (t .past) row) (omega (arith, and-le-r (t .all) off, and-le-l row ((2 ^ 32 - 1) - live)))
-      (omega (arith, and-le-r (t .past) row)))
-      ∙ any-same 32 _ (λ q. anyBelow end (λ u. hasBit row q && (hasBit (every u) q && not (ltb u n && hasBit live q)))) bits
-      ∙ any-swap 32 end (λ q u. hasBit row q && (hasBit (every u) q && not (ltb u n && hasBit live q)))
+  pub answer-out : t .past < 2 ^ 32 → not (eqb (bitOr (bitAnd (t .all) ((2 ^ 32 - 1) - live)) (t .past)) 0)
+      ≡ anyBelow end (λ u. anyBelow 32 (λ q. hasBit (every u) q && not (ltb u n && hasBit live q)))
+  answer-out hp =
+      word-some 32 (bitOr (bitAnd (t .all) off) (t .past)) (or-lt 32 (bitAnd (t .all) off) (t .past) (omega (arith, and-le-r (t .all) off)) hp)
+      ∙ any-same 32 _ (λ q. anyBelow end (λ u. hasBit (every u) q && not (ltb u n && hasBit live q))) bits
+      ∙ any-swap 32 end (λ q u. hasBit (every u) q && not (ltb u n && hasBit live q))
     where
       off : ℕ
-      off = bitAnd row ((2 ^ 32 - 1) - live)
+      off = (2 ^ 32 - 1) - live
 
-      all-bit : (q : ℕ) → q < 32
-          → hasBit (bitAnd (t .all) off) q ≡ anyBelow end (λ u. (ltb u n && hasBit (every u) q) && (hasBit row q && not (hasBit live q)))
+      all-bit : (q : ℕ) → q < 32 → hasBit (bitAnd (t .all) off) q ≡ anyBelow end (λ u. (ltb u n && hasBit (every u) q) && not (hasBit live q))
       all-bit q l =
           hasBit-and (t .all) off q
           ∙ ap₂ _&&_
@@ -90,23 +82,20 @@ module _ (words : ℕ → ℕ → ℕ) (n end : ℕ) (t : Track) (e : t ≡ trac
           ∙ ap (λ (x : ℕ). hasBit x q) (track-all words n end)
           ∙ has-orBelow end _ q
           ∙ any-same end _ _ (λ u _. edges-bit q u))
-          (hasBit-and row ((2 ^ 32 - 1) - live) q ∙ ap (λ (b : Bool). hasBit row q && b) (has-not live q hl l))
-          ∙ sym (any-and end (λ u. ltb u n && hasBit (every u) q) (hasBit row q && not (hasBit live q)))
+          (has-not live q hl l)
+          ∙ sym (any-and end (λ u. ltb u n && hasBit (every u) q) (not (hasBit live q)))
 
-      past-bits : (q : ℕ) → hasBit (bitAnd (t .past) row) q ≡ anyBelow end (λ u. (not (ltb u n) && hasBit (every u) q) && hasBit row q)
+      past-bits : (q : ℕ) → hasBit (t .past) q ≡ anyBelow end (λ u. not (ltb u n) && hasBit (every u) q)
       past-bits q =
-          hasBit-and (t .past) row q
-          ∙ ap (λ (b : Bool). b && hasBit row q)
-          (ap (λ (s : Track). hasBit (s .past) q) e
+          ap (λ (s : Track). hasBit (s .past) q) e
           ∙ ap (λ (x : ℕ). hasBit x q) (track-past words n end)
           ∙ has-orBelow end (past words n) q
-          ∙ any-same end _ _ (λ u _. past-bit q u))
-          ∙ sym (any-and end (λ u. not (ltb u n) && hasBit (every u) q) (hasBit row q))
+          ∙ any-same end _ _ (λ u _. past-bit q u)
 
-      bits : (q : ℕ) → q < 32 → hasBit (bitOr (bitAnd (t .all) off) (bitAnd (t .past) row)) q
-          ≡ anyBelow end (λ u. hasBit row q && (hasBit (every u) q && not (ltb u n && hasBit live q)))
+      bits : (q : ℕ) → q < 32 → hasBit (bitOr (bitAnd (t .all) off) (t .past)) q
+          ≡ anyBelow end (λ u. hasBit (every u) q && not (ltb u n && hasBit live q))
       bits q l =
-          hasBit-or (bitAnd (t .all) off) (bitAnd (t .past) row) q
+          hasBit-or (bitAnd (t .all) off) (t .past) q
           ∙ ap₂ _||_ (all-bit q l) (past-bits q)
           ∙ sym (any-or end _ _)
-          ∙ any-same end _ _ (λ u _. one-bit (ltb u n) (hasBit (every u) q) (hasBit row q) (hasBit live q))
+          ∙ any-same end _ _ (λ u _. one-bit (ltb u n) (hasBit (every u) q) (hasBit live q))

@@ -32,16 +32,16 @@ chroma-in false at i len e h = h
 
 -- ---- words
 
-module _ (ms : List ℕ) (luma : Bool) (at i c : ℕ) where
-  pub luma-word : luma ≡ true → wordAt ms (at + 6 * i + 2 * c) ≡ classWord ms luma at i c
+module _ (ms : List ℕ) (luma : Bool) (halves at i c : ℕ) where
+  pub luma-word : luma ≡ true → wordAt ms halves (at + 6 * i + 2 * c) ≡ classWord ms luma halves at i c
   unfolding classWord
   luma-word e = rw e refl
 
-  pub chroma-word : luma ≡ false → c < 2 → wordAt ms (at + 4 * i + 2 * c) ≡ classWord ms luma at i c
+  pub chroma-word : luma ≡ false → c < 2 → wordAt ms halves (at + 4 * i + 2 * c) ≡ classWord ms luma halves at i c
   unfolding classWord
   chroma-word e h = rw (e, lt-ltb c 2 h) refl
 
-  pub chroma-none : luma ≡ false → 2 ≤ c → 0 ≡ classWord ms luma at i c
+  pub chroma-none : luma ≡ false → 2 ≤ c → 0 ≡ classWord ms luma halves at i c
   unfolding classWord
   chroma-none e h = rw (e, le-ltb c 2 h) refl
 

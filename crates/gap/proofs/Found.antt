@@ -5,25 +5,30 @@ use mathlib.Core.Bool.{Bool, true, false, not, _&&_, _||_, cond, or-false, or-as
 use mathlib.Core.List.{List}
 use mathlib.Core.Logic.{by-cases}
 use mathlib.Core.Option.{Option, some, none}
-use Prim.Native.Nat.{ℕ, _+_, _-_, _*_, _/_, _%_, _≤_, _<_}
+use Prim.Native.Nat.{ℕ, _+_, _-_, _*_, _/_, _%_, _^_, _≤_, _<_, min}
+use native.Mathlib.Nat.{add-mul, mul-le-mul-right}
 use native.Mathlib.Decide.{decLt}
 use native.Mathlib.Omega.{arith}
 use lib.Bits.{bitOr}
 use lib.Dec.{ltb}
-use borrow.Author.Tests.{lt-ltb, le-ltb}
+use borrow.Author.Tests.{lt-ltb, le-ltb, ltb-true}
 use Rattle.loops.specs.Any.{anyBelow}
 use Rattle.loops.proofs.Anys.{any-same, any-nil}
+use Rattle.loops.proofs.Bools.{both-true}
 use Rattle.bits.specs.Bit.{hasBit}
 use Rattle.bits.specs.Mark.{isSet}
 use Rattle.bits.proofs.Bits.{hasBit-or, hasBit-nil}
 use Rattle.plane.specs.Line.{Pass}
-use Rattle.edges.specs.Edges.{Grid, other, side, half, classes, edgeBit, highest, Proper}
+use Rattle.edges.specs.Edges.{Grid, other, unitsOf, side, half, classes, edgeBit, highest, Proper}
+use Rattle.gap.specs.declared.Both.{Both}
+use Rattle.gap.specs.declared.track.Track.{Track}
 use Rattle.gap.specs.Line.{lineBroken}
-use Rattle.gap.specs.Lines.{bitOf, lineWord}
+use Rattle.gap.specs.Lines.{bitOf, lineBit, lineWord}
 use Rattle.gap.specs.Numbers.{halfBit, fits, badHalf}
-use Rattle.gap.specs.Track.{cut}
-use Rattle.gap.proofs.Masks.{along, edge-bit}
-use Rattle.gap.proofs.Runs.{has-line, bitOf-half, bitOf-bit, bitOf-lt, any-lines, any-halves}
+use Rattle.gap.specs.Track.{cut, track, Answers}
+use Rattle.gap.proofs.Answers.{answer-gap, answer-out}
+use Rattle.gap.proofs.Masks.{along, edge-bit, fits-in, fits-out}
+use Rattle.gap.proofs.Runs.{iff, line-in, line-out, line-lt, has-line, bitOf-half, bitOf-bit, bitOf-lt, any-lines, any-halves, any-first}
 use Rattle.gap.proofs.Slices.{lineOf}
 
 -- ---- the classes of a kind: three, or two
@@ -46,13 +51,14 @@ any-if : (n : ℕ) (b : Bool) (f : ℕ → Bool) → anyBelow n (λ i. b && f i)
 any-if n true f = refl
 any-if n false f = any-nil n
 
--- ---- a line of units across the pass d, at record l along it: unit u stands at place U u of the plane, n of `end` lie in the frame
+-- ---- lines of units across the pass d, in `halves` halves from half J on: unit u stands at place U u of the plane, n of `end` lie in the frame
 
-module _ (G : Grid) (p : Proper G) (ms : List ℕ) (d : Pass) (l : ℕ) (words : ℕ → ℕ → ℕ) (U : ℕ → ℕ) (n end : ℕ) (ends : n ≤ end)
+module _ (G : Grid) (p : Proper G) (ms : List ℕ) (d : Pass) (J halves : ℕ) (words : ℕ → ℕ → ℕ) (U : ℕ → ℕ) (n end : ℕ) (two : halves ≤ 2)
+    (ends : n ≤ end)
     (reads : (u c q : ℕ) → u < end → c < 3 → q < 32
-    → hasBit (words u c) q ≡ (ltb c (classes G) && isSet ms (halfBit G d (U u) c (l * 2 + q / 16) (q % 16)))) where
+    → hasBit (words u c) q ≡ (ltb c (classes G) && (ltb (q / 16) halves && isSet ms (halfBit G d (U u) c (J + q / 16) (q % 16))))) where
   abbrev set : ℕ → ℕ → ℕ → Bool
-  set u q c = isSet ms (halfBit G d (U u) c (l * 2 + q / 16) (q % 16))
+  set u q c = ltb (q / 16) halves && isSet ms (halfBit G d (U u) c (J + q / 16) (q % 16))
 
   line-made : (q u : ℕ) → q < 32 → lineOf (cut words n) q u ≡ cond (ltb u n) (highest (classes G) (set u q)) none
   unfolding lineOf cut
@@ -74,66 +80,98 @@ module _ (G : Grid) (p : Proper G) (ms : List ℕ) (d : Pass) (l : ℕ) (words :
       (hasBit-or (words u 1) (words u 2) q ∙ ap₂ _||_ (reads u 1 q i (omega arith) lq) (reads u 2 q i (omega arith) lq))
       ∙ some-class (set u q) (G .isLuma)
 
-  -- ---- number 11
-
   abbrev h : ℕ
   h = half G d
 
-  abbrev sd : ℕ
-  sd = side G (other d)
+  -- the lines start at place `first`, and `live` has the m of them in the frame
+  module _ (t : Track) (live first m : ℕ) (r : Both) (et : t ≡ track words n end) (el : live ≡ lineWord h m) (ans : Answers t live r)
+      (ev : J * h ≡ first) (em : m ≡ min (halves * h) (unitsOf G (other d) - first)) where
+    m-le : m ≤ 2 * h
+    m-le = omega (arith, mul-le-mul-right h two)
 
-  line-bit : (y u c : ℕ) → y < sd → halfBit G d (U u) c (l * 2 + bitOf h y / 16) (bitOf h y % 16) ≡ edgeBit G d (U u, l * sd + y) c
-  line-bit y u c i =
-      let k = along G p d in
-      ap₂ (λ (a b : ℕ). halfBit G d (U u) c (l * 2 + a) b) (bitOf-half h sd k y i) (bitOf-bit h sd k y i)
-      ∙ sym (edge-bit G p d (U u) c (l * 2 + y / h) (y % h) (k .bit-of y))
-      ∙ ap (λ (v : ℕ). edgeBit G d (U u, v) c) (k .half-at l (y / h) (y % h) ∙ ap (λ (v : ℕ). l * sd + v) (k .again y))
+    live-lt : live < 2 ^ 32
+    live-lt = rw el (line-lt h m (along G p d .most) m-le)
 
-  -- live has the lines of the record from `first` on, below `last`
-  pub lines-gap : (live first last : ℕ) (line : ℕ → ℕ → Option ℕ) → live ≡ lineWord h first last → first ≤ last → last ≤ sd
-      → ((y u : ℕ) → first ≤ y → y < last → cond (ltb u n) (highest (classes G) (λ c. isSet ms (edgeBit G d (U u, l * sd + y) c))) none ≡ line y u)
-      → anyBelow 32 (λ q. hasBit live q && lineBroken (lineOf (cut words n) q) end) ≡ anyBelow (last - first) (λ i. lineBroken (line (first + i)) end)
-  lines-gap live first last line e fl ls same =
-      let k = along G p d in
-      any-same 32 _ _
-      (λ q lq. ap (λ (b : Bool). b && lineBroken (lineOf (cut words n) q) end)
-      (ap (λ (x : ℕ). hasBit x q) e ∙ has-line h first last (k .most) fl (omega (arith, k .two)) q lq))
-      ∙ any-lines h sd k first last (λ q. lineBroken (lineOf (cut words n) q) end) ls
-      ∙ any-same (last - first) _ _
-      (λ i li. (λ t. lineBroken (λ u. whole (first + i) (omega arith) (omega arith) u t) end))
-    where
-      whole : (y : ℕ) → first ≤ y → y < last → (u : ℕ) → lineOf (cut words n) (bitOf h y) u ≡ line y u
-      whole y a b u =
-          line-made (bitOf h y) u (bitOf-lt h sd (along G p d) y (omega arith))
-          ∙ (λ t. cond (ltb u n) (highest (classes G) (λ c. isSet ms (line-bit y u c (omega arith) t))) none)
-          ∙ same y u a b
+    live-bit : (q : ℕ) → q < 32 → hasBit live q ≡ lineBit h m q
+    live-bit q l = ap (λ (x : ℕ). hasBit x q) el ∙ has-line h m (along G p d .most) m-le q l
 
-  -- ---- number 12
+    -- ---- number 11
 
-  abbrev every : ℕ → ℕ → Bool
-  every u q = hasBit (bitOr (words u 0) (bitOr (words u 1) (words u 2))) q
+    line-bit : (y u c : ℕ) → y < m → set u (bitOf h y) c ≡ isSet ms (edgeBit G d (U u, first + y) c)
+    line-bit y u c i =
+        let k = along G p d in
+        let a = bitOf-half h (side G (other d)) k y in
+        let b = bitOf-bit h (side G (other d)) k y in
+        ap₂ (λ (x : Bool) (v : ℕ). x && isSet ms v) (ap (λ (v : ℕ). ltb v halves) a ∙ lt-ltb (y / h) halves (k .half-of halves y (omega arith)))
+        ((λ i. halfBit G d (U u) c (J + a i) (b i))
+        ∙ sym (edge-bit G p d (U u) c (J + y / h) (y % h) (k .bit-of y))
+        ∙ ap (λ (v : ℕ). edgeBit G d (U u, v) c) (omega (arith, add-mul J (y / h) h, k .again y)))
 
-  -- a bit of half k, in the record, that is set and does not fit
-  abbrev bad : ℕ → ℕ → ℕ → Bool
-  bad u k b = anyBelow (classes G) (λ c. isSet ms (halfBit G d (U u) c (l * 2 + k) b)) && not (fits G d (U u) (l * 2 + k) b)
+    pub lines-gap : (line : ℕ → ℕ → Option ℕ)
+        → ((y u : ℕ) → y < m → cond (ltb u n) (highest (classes G) (λ c. isSet ms (edgeBit G d (U u, first + y) c))) none ≡ line y u)
+        → r .gap ≡ anyBelow m (λ i. lineBroken (line i) end)
+    lines-gap line same =
+        let k = along G p d in
+        ans .eleven
+        ∙ answer-gap words n end t et live live-lt ends
+        ∙ any-same 32 _ _ (λ q lq. ap (λ (b : Bool). b && lineBroken (lineOf (cut words n) q) end) (live-bit q lq))
+        ∙ any-lines h (side G (other d)) k m (λ q. lineBroken (lineOf (cut words n) q) end) m-le
+        ∙ any-same m _ _ (λ i li. (λ t. lineBroken (λ u. whole i li u t) end))
+      where
+        whole : (y : ℕ) → y < m → (u : ℕ) → lineOf (cut words n) (bitOf h y) u ≡ line y u
+        whole y l u =
+            line-made (bitOf h y) u (bitOf-lt h (side G (other d)) (along G p d) y (omega (arith, m-le)))
+            ∙ (λ t. cond (ltb u n) (highest (classes G) (λ c. line-bit y u c l t)) none)
+            ∙ same y u l
 
-  -- mine: the halves of the row
-  module _ (row live u : ℕ) (mine : ℕ → Bool) (i : u < end) (er : (k b : ℕ) → k < 2 → b < 16 → hasBit row (16 * k + b) ≡ mine k)
-      (ef : (k b : ℕ) → k < 2 → b < 16 → mine k ≡ true → (ltb u n && hasBit live (16 * k + b)) ≡ fits G d (U u) (l * 2 + k) b) where
-    every-half : (k b : ℕ) → k < 2 → b < 16 → every u (16 * k + b) ≡ anyBelow (classes G) (λ c. isSet ms (halfBit G d (U u) c (l * 2 + k) b))
-    every-half k b lk lb =
-        let x : (16 * k + b) / 16 ≡ k = omega arith in
-        let y : (16 * k + b) % 16 ≡ b = omega arith in
-        every-made (16 * k + b) u i (omega arith) ∙ (λ t. anyBelow (classes G) (λ c. isSet ms (halfBit G d (U u) c (l * 2 + x t) (y t))))
+    -- ---- number 12
 
-    one-bit : (k b : ℕ) → k < 2 → b < 16 → (m : Bool) → mine k ≡ m
-        → (hasBit row (16 * k + b) && (every u (16 * k + b) && not (ltb u n && hasBit live (16 * k + b)))) ≡ (mine k && bad u k b)
-    one-bit k b lk lb true e = ap₂ _&&_ (er k b lk lb) (ap₂ (λ (s f : Bool). s && not f) (every-half k b lk lb) (ef k b lk lb e))
-    one-bit k b lk lb false e = rw (er k b lk lb, e) refl
+    abbrev every : ℕ → ℕ → Bool
+    every u q = hasBit (bitOr (words u 0) (bitOr (words u 1) (words u 2))) q
 
-    pub halves-out : anyBelow 32 (λ q. hasBit row q && (every u q && not (ltb u n && hasBit live q)))
-        ≡ anyBelow 2 (λ k. mine k && badHalf G ms d (U u) (l * 2 + k))
-    unfolding badHalf
-    halves-out =
-        any-halves (λ q. hasBit row q && (every u q && not (ltb u n && hasBit live q)))
-        ∙ any-same 2 _ _ (λ k lk. any-same 16 _ _ (λ b lb. one-bit k b lk lb (mine k) refl) ∙ any-if 16 (mine k) (bad u k))
+    -- a bit of half k is set, and does not fit
+    abbrev bad : ℕ → ℕ → ℕ → Bool
+    bad u k b = anyBelow (classes G) (λ c. isSet ms (halfBit G d (U u) c (J + k) b)) && not (fits G d (U u) (J + k) b)
+
+    module _ (eu : (u : ℕ) → u < end → ltb u n ≡ ltb (U u) (unitsOf G d)) where
+      live-fits : (u k b : ℕ) → u < end → k < halves → b < 16 → (ltb u n && hasBit live (16 * k + b)) ≡ fits G d (U u) (J + k) b
+      live-fits u k b lu lk lb =
+          ap₂ _&&_ (eu u lu) (live-bit (16 * k + b) (omega arith))
+          ∙ iff (ltb (U u) (unitsOf G d) && lineBit h m (16 * k + b)) (fits G d (U u) (J + k) b)
+          (λ y.
+          let z = both-true (ltb (U u) (unitsOf G d)) (lineBit h m (16 * k + b)) y in
+          let w = line-out h m (16 * k + b) (z .1) in
+          fits-in G d (U u) (J + k) b (omega arith) (ltb-true (U u) (unitsOf G d) (z .0)) (omega (arith, same, add-mul J k h)))
+          (λ y.
+          let z = fits-out G d (U u) (J + k) b y in
+          ap₂ _&&_ (lt-ltb (U u) (unitsOf G d) (z .1))
+          (line-in h m (16 * k + b) (omega arith) (omega (arith, same, add-mul J k h, mul-le-mul-right h lk, add-mul k 1 h))))
+        where
+          same : (16 * k + b) / 16 * h + (16 * k + b) % 16 ≡ k * h + b
+          same = let x : (16 * k + b) / 16 ≡ k = omega arith in ap (λ (v : ℕ). v * h + (16 * k + b) % 16) x ∙ omega arith
+
+      one-bit : (u k b : ℕ) → u < end → k < 2 → b < 16 → (every u (16 * k + b) && not (ltb u n && hasBit live (16 * k + b))) ≡ (ltb k halves && bad u k b)
+      one-bit u k b lu lk lb = by-cases (decLt k halves) own other-half
+        where
+          made : every u (16 * k + b) ≡ anyBelow (classes G) (λ c. ltb k halves && isSet ms (halfBit G d (U u) c (J + k) b))
+          made =
+              let x : (16 * k + b) / 16 ≡ k = omega arith in
+              let y : (16 * k + b) % 16 ≡ b = omega arith in
+              every-made (16 * k + b) u lu (omega arith)
+              ∙ (λ t. anyBelow (classes G) (λ c. ltb (x t) halves && isSet ms (halfBit G d (U u) c (J + x t) (y t))))
+
+          own : k < halves → (every u (16 * k + b) && not (ltb u n && hasBit live (16 * k + b))) ≡ (ltb k halves && bad u k b)
+          own l = rw (made, live-fits u k b lu l lb, lt-ltb k halves l) refl
+
+          other-half : ¬ (k < halves) → (every u (16 * k + b) && not (ltb u n && hasBit live (16 * k + b))) ≡ (ltb k halves && bad u k b)
+          other-half l = rw (made, le-ltb k halves (omega arith), any-nil (classes G)) refl
+
+      pub halves-out : r .out ≡ anyBelow end (λ u. anyBelow halves (λ k. badHalf G ms d (U u) (J + k)))
+      unfolding badHalf
+      halves-out =
+          ans .twelve
+          ∙ answer-out words n end t et live live-lt (ans .word)
+          ∙ any-same end _ _
+          (λ u lu. any-halves (λ q. every u q && not (ltb u n && hasBit live q))
+          ∙ any-same 2 _ _ (λ k lk. any-same 16 _ _ (λ b lb. one-bit u k b lu lk lb) ∙ any-if 16 (ltb k halves) (bad u k))
+          ∙ any-first halves 2 (λ k. badHalf G ms d (U u) (J + k)) two)

@@ -36,6 +36,11 @@ pub start-in : (luma : Bool) (pass : ℕ) → pass < 2 → startOf luma pass + s
 start-in true pass h = omega arith
 start-in false pass h = omega arith
 
+-- columns are not the last in a record
+columns-in : (luma : Bool) → startOf luma 0 + stepOf luma * 32 < 640
+columns-in true = omega arith
+columns-in false = omega arith
+
 -- ---- records
 
 module _ (len w4 h4 sb4 k : ℕ) (f : MasksFit len w4 h4 sb4 k) where
@@ -63,9 +68,9 @@ module _ (q R l groups : ℕ) (el : l ≡ q) (eg : groups ≡ R) where
   pub record-place : (luma : Bool) (pass g at : ℕ) → at ≡ 640 * (l * groups + g) + startOf luma pass → at ≡ 640 * (q * R + g) + startOf luma pass
   record-place luma pass g at e = e ∙ (λ i. 640 * (el i * eg i + g) + startOf luma pass)
 
-  pub columns-fit : (luma : Bool) (len base : ℕ) → 640 * ((q + 1) * R) ≤ len → base ≡ 640 * (l * groups) + startOf luma 0
-      → base + 640 * groups + stepOf luma * 32 ≤ len + 640
-  columns-fit luma len base h e = rw (e, el, eg) (omega (arith, add-mul q 1 R, start-in luma 0 (omega arith)))
+  pub columns-fit : (luma : Bool) (len at first : ℕ) → 640 * ((q + 1) * R) ≤ len → at ≡ 640 * (l * groups) + startOf luma 0 → first < 2
+      → at + first + 640 * groups + stepOf luma * 32 ≤ len + 640
+  columns-fit luma len at first h e f = rw (e, el, eg) (omega (arith, add-mul q 1 R, columns-in luma))
 
   pub rows-fit : (luma : Bool) (len g at m : ℕ) → 640 * (q * R + g) + 640 ≤ len → at ≡ 640 * (l * groups + g) + startOf luma 1 → m ≤ 32
       → at + stepOf luma * m ≤ len
@@ -73,32 +78,32 @@ module _ (q R l groups : ℕ) (el : l ≡ q) (eg : groups ≡ R) where
 
 -- ---- the walks
 
-module _ (ms : List ℕ) (luma : Bool) (base ss wide : ℕ) (h : ss ≤ 1) where
-  pub columns-none : (t : Track) → t ≡ startT → t ≡ track (columnWords ms luma base (32 / 2 ^ ss)) wide (0 * (32 / 2 ^ ss))
+module _ (ms : List ℕ) (luma : Bool) (hs base ss wide : ℕ) (h : ss ≤ 1) where
+  pub columns-none : (t : Track) → t ≡ startT → t ≡ track (columnWords ms luma hs base (32 / 2 ^ ss)) wide (0 * (32 / 2 ^ ss))
   unfolding track
-  columns-none t e = e ∙ ap (track (columnWords ms luma base (32 / 2 ^ ss)) wide) (sym (zero-mul (32 / 2 ^ ss)))
+  columns-none t e = e ∙ ap (track (columnWords ms luma hs base (32 / 2 ^ ss)) wide) (sym (zero-mul (32 / 2 ^ ss)))
 
   column-word : (g i c : ℕ) → i < 32 / 2 ^ ss
-      → classWord ms luma (base + 640 * g) (0 + i) c ≡ columnWords ms luma base (32 / 2 ^ ss) (g * (32 / 2 ^ ss) + i) c
+      → classWord ms luma hs (base + 640 * g) (0 + i) c ≡ columnWords ms luma hs base (32 / 2 ^ ss) (g * (32 / 2 ^ ss) + i) c
   unfolding columnWords
   column-word g i c l =
       let k = halves ss h in
       let a = sym (k .of-record g i l) in
       let b = zero-add i ∙ sym (k .in-record g i l) in
-      (λ t. classWord ms luma (base + 640 * a t) (b t) c)
+      (λ t. classWord ms luma hs (base + 640 * a t) (b t) c)
 
   pub columns-more : (g n : ℕ) (t r : Track) → n ≡ min (32 / 2 ^ ss) (wide - g * (32 / 2 ^ ss))
-      → t ≡ track (columnWords ms luma base (32 / 2 ^ ss)) wide (g * (32 / 2 ^ ss)) → r ≡ partT ms luma (base + 640 * g) 0 n (32 / 2 ^ ss) t
-      → r ≡ track (columnWords ms luma base (32 / 2 ^ ss)) wide ((g + 1) * (32 / 2 ^ ss))
+      → t ≡ track (columnWords ms luma hs base (32 / 2 ^ ss)) wide (g * (32 / 2 ^ ss)) → r ≡ partT ms luma hs (base + 640 * g) 0 n (32 / 2 ^ ss) t
+      → r ≡ track (columnWords ms luma hs base (32 / 2 ^ ss)) wide ((g + 1) * (32 / 2 ^ ss))
   columns-more g n t r en et er =
-      part-track (columnWords ms luma base (32 / 2 ^ ss)) wide ms luma (base + 640 * g) 0 (g * (32 / 2 ^ ss)) n (32 / 2 ^ ss) t r en
+      part-track (columnWords ms luma hs base (32 / 2 ^ ss)) wide ms luma hs (base + 640 * g) 0 (g * (32 / 2 ^ ss)) n (32 / 2 ^ ss) t r en
       (column-word g) et er
-      ∙ ap (track (columnWords ms luma base (32 / 2 ^ ss)) wide) (omega (arith, add-mul g 1 (32 / 2 ^ ss)))
+      ∙ ap (track (columnWords ms luma hs base (32 / 2 ^ ss)) wide) (omega (arith, add-mul g 1 (32 / 2 ^ ss)))
 
-pub rows-walked : (ms : List ℕ) (luma : Bool) (at from n sb : ℕ) (t r : Track) → n ≤ sb → t ≡ startT → r ≡ partT ms luma at from n sb t
+pub rows-walked : (ms : List ℕ) (luma : Bool) (at from n sb : ℕ) (t r : Track) → n ≤ sb → t ≡ startT → r ≡ partT ms luma 2 at from n sb t
     → r ≡ track (rowWords ms luma at from) n sb
 unfolding track rowWords
 rows-walked ms luma at from n sb t r l et er =
-    part-track (rowWords ms luma at from) n ms luma at from 0 n sb t r (omega arith)
-    (λ i c _. ap (λ (k : ℕ). classWord ms luma at (from + k) c) (sym (zero-add i))) et er
+    part-track (rowWords ms luma at from) n ms luma 2 at from 0 n sb t r (omega arith)
+    (λ i c _. ap (λ (k : ℕ). classWord ms luma 2 at (from + k) c) (sym (zero-add i))) et er
     ∙ ap (track (rowWords ms luma at from) n) (zero-add sb)

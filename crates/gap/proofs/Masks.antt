@@ -4,11 +4,11 @@ use mathlib.Core.Bool.{Bool, true, false, _&&_, cond}
 use mathlib.Core.List.{List}
 use mathlib.Core.Logic.{by-cases}
 use Prim.Native.Nat.{ℕ, _+_, _-_, _*_, _/_, _%_, _^_, _≤_, _<_}
-use native.Mathlib.Decide.{decLt}
+use native.Mathlib.Decide.{decLt, ℕ-discrete}
 use native.Mathlib.Omega.{arith}
-use lib.Dec.{ltb}
+use lib.Dec.{eqb, ltb}
 use lib.ListN.{getD}
-use borrow.Author.Tests.{lt-ltb, ltb-true}
+use borrow.Author.Tests.{eq-eqb, ne-eqb, lt-ltb, le-ltb, ltb-true}
 use Rattle.bits.specs.Bit.{hasBit}
 use Rattle.bits.specs.Mark.{isSet}
 use Rattle.bits.proofs.Bits.{has-of-bit, bit-low, bit-high, hasBit-nil}
@@ -64,34 +64,45 @@ word-in G d unit c h = go (G .isLuma) refl
     go true e = rw e (omega arith)
     go false e = rw e (omega arith)
 
-module _ (ms : List ℕ) (small : (j : ℕ) → getD ms j 0 < 65536) where
-  word-bit : (i q : ℕ) → q < 32 → hasBit (wordAt ms i) q ≡ isSet ms (16 * i + q)
+module _ (ms : List ℕ) (small : (j : ℕ) → getD ms j 0 < 65536) (halves : ℕ) (some : 0 < halves) (two : halves ≤ 2) where
+  word-bit : (i q : ℕ) → q < 32 → hasBit (wordAt ms halves i) q ≡ (ltb (q / 16) halves && isSet ms (16 * i + q))
   unfolding wordAt isSet
   word-bit i q l = by-cases (decLt q 16) low high
     where
-      low : q < 16 → hasBit (getD ms (i + 1) 0 * 2 ^ 16 + getD ms i 0) q ≡ hasBit (getD ms ((16 * i + q) / 16) 0) ((16 * i + q) % 16)
+      hi : ℕ
+      hi = cond (eqb halves 2) (getD ms (i + 1) 0) 0
+
+      low : q < 16 → hasBit (hi * 2 ^ 16 + getD ms i 0) q ≡ (ltb (q / 16) halves && isSet ms (16 * i + q))
       low p =
           let d : i ≡ (16 * i + q) / 16 = omega arith in
           let m : q ≡ (16 * i + q) % 16 = omega arith in
-          has-of-bit _ _ q q (bit-low (getD ms (i + 1) 0) (getD ms i 0) 16 q (small i) p) ∙ (λ t. hasBit (getD ms (d t) 0) (m t))
+          rw (lt-ltb (q / 16) halves (omega arith))
+          (has-of-bit _ _ q q (bit-low hi (getD ms i 0) 16 q (small i) p) ∙ (λ t. hasBit (getD ms (d t) 0) (m t)))
 
-      high : ¬ (q < 16) → hasBit (getD ms (i + 1) 0 * 2 ^ 16 + getD ms i 0) q ≡ hasBit (getD ms ((16 * i + q) / 16) 0) ((16 * i + q) % 16)
-      high p =
+      up : ¬ (q < 16) → Dec (halves ≡ 2) → hasBit hi (q - 16) ≡ (ltb (q / 16) halves && isSet ms (16 * i + q))
+      up p (yes e) =
           let d : i + 1 ≡ (16 * i + q) / 16 = omega arith in
           let m : q - 16 ≡ (16 * i + q) % 16 = omega arith in
+          rw (eq-eqb halves 2 e, lt-ltb (q / 16) halves (omega arith)) (λ t. hasBit (getD ms (d t) 0) (m t))
+      up p (no e) = rw (ne-eqb halves 2 e, le-ltb (q / 16) halves (omega arith)) (hasBit-nil (q - 16))
+
+      high : ¬ (q < 16) → hasBit (hi * 2 ^ 16 + getD ms i 0) q ≡ (ltb (q / 16) halves && isSet ms (16 * i + q))
+      high p =
           let e : q ≡ 16 + (q - 16) = omega arith in
-          ap (hasBit (getD ms (i + 1) 0 * 2 ^ 16 + getD ms i 0)) e
-          ∙ has-of-bit _ _ (16 + (q - 16)) (q - 16) (bit-high (getD ms (i + 1) 0) (getD ms i 0) 16 (q - 16) (small i))
-          ∙ (λ t. hasBit (getD ms (d t) 0) (m t))
+          ap (hasBit (hi * 2 ^ 16 + getD ms i 0)) e
+          ∙ has-of-bit _ _ (16 + (q - 16)) (q - 16) (bit-high hi (getD ms i 0) 16 (q - 16) (small i))
+          ∙ up p (ℕ-discrete halves 2)
 
   -- bit q of the word of class c at unit i
   pub class-bit : (luma : Bool) (at i c q : ℕ) → c < 3 → q < 32
-      → hasBit (classWord ms luma at i c) q ≡ (ltb c (cond luma 3 2) && isSet ms (16 * (at + stepOf luma * i + 2 * c) + q))
+      → hasBit (classWord ms luma halves at i c) q
+      ≡ (ltb c (cond luma 3 2) && (ltb (q / 16) halves && isSet ms (16 * (at + stepOf luma * i + 2 * c) + q)))
   unfolding classWord
   class-bit true at i c q l h = rw (lt-ltb c 3 l) (word-bit (at + 6 * i + 2 * c) q h)
   class-bit false at i c q l h = go (ltb c 2)
     where
-      go : (b : Bool) → hasBit (cond b (wordAt ms (at + 4 * i + 2 * c)) 0) q ≡ (b && isSet ms (16 * (at + 4 * i + 2 * c) + q))
+      go : (b : Bool) → hasBit (cond b (wordAt ms halves (at + 4 * i + 2 * c)) 0) q
+          ≡ (b && (ltb (q / 16) halves && isSet ms (16 * (at + 4 * i + 2 * c) + q)))
       go true = word-bit (at + 4 * i + 2 * c) q h
       go false = hasBit-nil q
 

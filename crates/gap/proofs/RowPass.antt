@@ -1,11 +1,11 @@
 -- The row pass: the walk in one record answers numbers 11 and 12 of the lines in it, and record after record of all.
 use mathlib.Core.Path.{_≡_, refl, sym, ap, ap₂, _∙_}
-use mathlib.Core.Bool.{Bool, true, false, _&&_, _||_, cond}
+use mathlib.Core.Bool.{Bool, false, _&&_, _||_, cond}
 use mathlib.Core.List.{List}
 use mathlib.Core.Logic.{by-cases}
 use mathlib.Core.Option.{none}
-use Prim.Native.Nat.{ℕ, _+_, _*_, _/_, _%_, _^_, _≤_, _<_, min}
-use native.Mathlib.Nat.{add-mul, zero-mul, zero-add, sub-zero}
+use Prim.Native.Nat.{ℕ, _+_, _-_, _*_, _/_, _%_, _≤_, _<_, min}
+use native.Mathlib.Nat.{add-mul, zero-mul}
 use native.Mathlib.Decide.{decLt}
 use native.Mathlib.Omega.{arith}
 use lib.Dec.{ltb}
@@ -13,23 +13,20 @@ use lib.ListN.{getD}
 use borrow.Author.Tests.{lt-ltb, le-ltb, ltb-true}
 use Rattle.loops.specs.Any.{anyBelow}
 use Rattle.loops.proofs.Anys.{any-none, any-nil, any-same, any-or, any-split}
-use Rattle.loops.proofs.Bools.{both-true}
 use Rattle.bits.specs.Bit.{hasBit}
 use Rattle.bits.specs.Mark.{isSet}
-use Rattle.bits.proofs.Bits.{hasBit-ones}
 use Rattle.plane.specs.Line.{columns, rows}
 use Rattle.units.specs.Frame.{records}
 use Rattle.gap.specs.declared.Both.{Both}
 use Rattle.gap.specs.declared.track.Track.{Track}
 use Rattle.edges.specs.Edges.{Grid, unitsOf, side, half, classes, wordIn, edgeBit, highest, edge, Proper}
 use Rattle.gap.specs.Line.{lineBroken}
-use Rattle.gap.specs.Lines.{lineBit, lineWord, inRecord, recordRow, firstLine, rowUnits}
-use Rattle.gap.specs.Numbers.{sbUnits, part, gap, halfBit, fits, badHalf, outside, Found, RecordFound}
+use Rattle.gap.specs.Lines.{lineWord, inRecord, recordRow, firstLine, rowUnits}
+use Rattle.gap.specs.Numbers.{sbUnits, part, gap, halfBit, badHalf, outside, Found, RecordFound}
 use Rattle.gap.specs.Track.{stepOf, startOf, rowWords, track, Answers}
-use Rattle.gap.proofs.Answers.{answer-gap, answer-out}
 use Rattle.gap.proofs.Found.{lines-gap, halves-out}
-use Rattle.gap.proofs.Masks.{along, word-in, class-bit, fits-in, fits-out}
-use Rattle.gap.proofs.Runs.{iff, line-in, line-out, has-line, line-lt}
+use Rattle.gap.proofs.Masks.{along, word-in, class-bit}
+use Rattle.gap.proofs.Runs.{iff}
 use Rattle.gap.proofs.Shapes.{RowLines, units-stored, record-starts}
 
 -- ---- one record
@@ -56,7 +53,7 @@ module _ (G : Grid) (p : Proper G) (ms : List ℕ) (small : (j : ℕ) → getD m
   words = rowWords ms (G .isLuma) (640 * (l * records (G .w4) + g) + startOf (G .isLuma) 1) first
 
   reads : (u c q : ℕ) → u < sb → c < 3 → q < 32
-      → hasBit (words u c) q ≡ (ltb c (classes G) && isSet ms (halfBit G rows (k * sb + u) c (g * 2 + q / 16) (q % 16)))
+      → hasBit (words u c) q ≡ (ltb c (classes G) && (ltb (q / 16) 2 && isSet ms (halfBit G rows (k * sb + u) c (g * 2 + q / 16) (q % 16))))
   unfolding rowWords halfBit
   reads u c q lu lc lq =
       let a : (g * 2 + q / 16) / 2 ≡ g = omega arith in
@@ -65,8 +62,8 @@ module _ (G : Grid) (p : Proper G) (ms : List ℕ) (small : (j : ℕ) → getD m
       let i : first + u < side G rows = omega (arith, at .room) in
       let e : (k * sb + u) / side G rows ≡ l = ap (λ (v : ℕ). v / side G rows) y ∙ along G p columns .of-record l (first + u) i in
       let f : (k * sb + u) % side G rows ≡ first + u = ap (λ (v : ℕ). v % side G rows) y ∙ along G p columns .in-record l (first + u) i in
-      class-bit ms small (G .isLuma) (640 * (l * records (G .w4) + g) + startOf (G .isLuma) 1) (first + u) c q lc lq
-      ∙ ap (λ (x : ℕ). ltb c (classes G) && isSet ms x)
+      class-bit ms small 2 (omega arith) (omega arith) (G .isLuma) (640 * (l * records (G .w4) + g) + startOf (G .isLuma) 1) (first + u) c q lc lq
+      ∙ ap (λ (x : ℕ). ltb c (classes G) && (ltb (q / 16) 2 && isSet ms x))
       (sum (l * records (G .w4)) g (stepOf (G .isLuma) * (first + u)) (startOf (G .isLuma) 1) c q
       ∙ ap (λ (x : ℕ). 10240 * (l * records (G .w4) + g) + (16 * x + q % 16)) (sym (word-in G rows (first + u) c (q / 16)))
       ∙ (λ t. 10240 * (sym e t * records (G .w4) + sym a t) + (16 * wordIn G rows (sym f t) c (sym b t) + q % 16)))
@@ -90,52 +87,27 @@ module _ (G : Grid) (p : Proper G) (ms : List ℕ) (small : (j : ℕ) → getD m
       (by-cases (decLt u sb) (λ j. rw (lt-ltb u sb j, le-ltb (k * sb + u) (unitsOf G rows) (omega arith)) refl)
       (λ j. rw (le-ltb u sb (omega arith)) refl)))
 
-  abbrev h : ℕ
-  h = half G rows
+  module _ (t : Track) (live : ℕ) (r : Both) (et : t ≡ track words n sb) (el : live ≡ lineWord (half G rows) m) (ans : Answers t live r) where
+    from : g * 2 * half G rows ≡ g * side G columns
+    from = omega (arith, along G p rows .half-at g 0 0)
 
-  module _ (t : Track) (live : ℕ) (r : Both) (et : t ≡ track words n sb) (el : live ≡ lineWord h 0 m) (ans : Answers t 4294967295 live r) where
-    m-le : m ≤ 2 * h
-    m-le = omega (arith, along G p rows .two)
+    in-halves : m ≡ min (2 * half G rows) (unitsOf G columns - g * side G columns)
+    in-halves = ap (λ (x : ℕ). min x (unitsOf G columns - g * side G columns)) (along G p rows .two)
 
-    live-lt : live < 2 ^ 32
-    live-lt = rw el (line-lt h 0 m (along G p rows .most) (omega arith) m-le)
+    inside : (u : ℕ) → u < sb → ltb u n ≡ ltb (k * sb + u) (unitsOf G rows)
+    inside u l =
+        iff (ltb u n) (ltb (k * sb + u) (unitsOf G rows)) (λ y. lt-ltb (k * sb + u) (unitsOf G rows) (omega (arith, ltb-true u n y)))
+        (λ y. lt-ltb u n (omega (arith, ltb-true (k * sb + u) (unitsOf G rows) y)))
 
     eleven : r .gap ≡ anyBelow m (λ i. lineBroken (part (k * sb) sb (λ y. edge G ms rows (y, g * side G columns + i))) sb)
     eleven =
-        ans .eleven
-        ∙ answer-gap words n sb t et live live-lt (omega arith)
-        ∙ lines-gap G p ms rows g words (λ u. k * sb + u) n sb (omega arith) reads live 0 m
-        (λ y. part (k * sb) sb (λ v. edge G ms rows (v, g * side G columns + y))) el (omega arith) (omega arith) (λ y u _. line-edge y u)
-        ∙ (λ j. anyBelow (sub-zero m j) (λ i. lineBroken (part (k * sb) sb (λ y. edge G ms rows (y, g * side G columns + zero-add i j))) sb))
-
-    live-bit : (u j b : ℕ) → u < sb → j < 2 → b < 16 → (ltb u n && hasBit live (16 * j + b)) ≡ fits G rows (k * sb + u) (g * 2 + j) b
-    live-bit u j b lu lj lb =
-        ap (λ (x : Bool). ltb u n && x)
-        (ap (λ (v : ℕ). hasBit v (16 * j + b)) el ∙ has-line h 0 m (along G p rows .most) (omega arith) m-le (16 * j + b) (omega arith))
-        ∙ iff (ltb u n && lineBit h 0 m (16 * j + b)) (fits G rows (k * sb + u) (g * 2 + j) b)
-        (λ y.
-        let z = both-true (ltb u n) (lineBit h 0 m (16 * j + b)) y in
-        let w = line-out h 0 m (16 * j + b) (z .1) in
-        let v = ltb-true u n (z .0) in
-        fits-in G rows (k * sb + u) (g * 2 + j) b (omega arith) (omega arith) (omega (arith, same, down)))
-        (λ y.
-        let z = fits-out G rows (k * sb + u) (g * 2 + j) b y in
-        let x = along G p rows .half-in j b lj (z .0) in
-        ap₂ _&&_ (lt-ltb u n (omega arith)) (line-in h 0 m (16 * j + b) (omega arith) (omega arith) (omega (arith, same, down))))
-      where
-        same : (16 * j + b) / 16 * h + (16 * j + b) % 16 ≡ j * h + b
-        same = let x : (16 * j + b) / 16 ≡ j = omega arith in ap (λ (v : ℕ). v * h + (16 * j + b) % 16) x ∙ omega arith
-
-        down : (g * 2 + j) * h + b ≡ g * side G columns + (j * h + b)
-        down = along G p rows .half-at g j b
+        lines-gap G p ms rows (g * 2) 2 words (λ u. k * sb + u) n sb (omega arith) (omega arith) reads t live (g * side G columns) m r et el ans from
+        in-halves (λ y. part (k * sb) sb (λ v. edge G ms rows (v, g * side G columns + y))) line-edge
 
     twelve : r .out ≡ anyBelow sb (λ i. anyBelow 2 (λ j. badHalf G ms rows (k * sb + i) (g * 2 + j)))
     twelve =
-        ans .twelve
-        ∙ answer-out words n sb t et live live-lt 4294967295 (omega arith)
-        ∙ any-same sb _ _
-        (λ u lu. halves-out G p ms rows g words (λ u. k * sb + u) n sb (omega arith) reads 4294967295 live u (λ j. true) lu
-        (λ j b lj lb. hasBit-ones 32 (16 * j + b) (omega arith)) (λ j b lj lb _. live-bit u j b lu lj lb))
+        halves-out G p ms rows (g * 2) 2 words (λ u. k * sb + u) n sb (omega arith) (omega arith) reads t live (g * side G columns) m r et el ans from
+        in-halves inside
 
     pub record-found : RecordFound G ms sb4 k g r
     record-found = record { eleven = eleven; twelve = twelve }

@@ -7,7 +7,7 @@ use Rattle.units.specs.Frame.{records}
 use Rattle.units.specs.Memory.{halfUnits}
 use Rattle.units.specs.Units.{chromaUnit, chromaUnits}
 use Rattle.units.proofs.Places.{by-ss}
-use Rattle.gap.specs.Lines.{recordRow, firstLine}
+use Rattle.gap.specs.Lines.{recordRow, firstLine, firstHalf}
 
 by-sb : (P : ℕ → Type 0) → P 16 → P 32 → (sb4 : ℕ) → (sb4 ≡ 16) ⊎ (sb4 ≡ 32) → P sb4
 by-sb P p q sb4 = ⊎-elim (λ e. subst P (sym e) p) (λ e. subst P (sym e) q)
@@ -31,12 +31,11 @@ pub record Halves (half side : ℕ) : Type 0 where
   pub bit : (h b : ℕ) → b < half → (h * half + b) % half ≡ b
   -- half h of record l
   pub half-at : (l h b : ℕ) → (l * 2 + h) * half + b ≡ l * side + (h * half + b)
-  pub half-in : (h b : ℕ) → h < 2 → b < half → h * half + b < side
   -- unit i of record g
   pub of-record : (g i : ℕ) → i < side → (g * side + i) / side ≡ g
   pub in-record : (g i : ℕ) → i < side → (g * side + i) % side ≡ i
-  -- unit y of a record is unit y % half of half y / half
-  pub half-of : (y : ℕ) → y < side → y / half < 2
+  -- unit y is unit y % half of half y / half
+  pub half-of : (n y : ℕ) → y < n * half → y / half < n
   pub bit-of : (y : ℕ) → y % half < half
   pub again : (y : ℕ) → y / half * half + y % half ≡ y
 
@@ -51,10 +50,9 @@ halves =
       halfNo = λ h b l. omega arith;
       bit = λ h b l. omega arith;
       half-at = λ l h b. omega arith;
-      half-in = λ h b p q. omega arith;
       of-record = λ g i l. omega arith;
       in-record = λ g i l. omega arith;
-      half-of = λ y l. omega arith;
+      half-of = λ n y l. omega arith;
       bit-of = λ y. omega arith;
       again = λ y. omega arith;
     })
@@ -66,65 +64,45 @@ halves =
       halfNo = λ h b l. omega arith;
       bit = λ h b l. omega arith;
       half-at = λ l h b. omega arith;
-      half-in = λ h b p q. omega arith;
       of-record = λ g i l. omega arith;
       in-record = λ g i l. omega arith;
-      half-of = λ y l. omega arith;
+      half-of = λ n y l. omega arith;
       bit-of = λ y. omega arith;
       again = λ y. omega arith;
     })
 
--- ---- superblock row k in its record row: its halves, from half k * sb4 % 32 / 16 on, and its lines in a plane
+-- ---- superblock row k in its record row: its halves, and its lines in a plane
 
 pub record RowHalves (h4 sb4 k : ℕ) : Type 0 where
   pub down : recordRow sb4 k < records h4
-  pub few : k * sb4 % 32 + sb4 ≤ 32
-  pub halfNo : recordRow sb4 k * 2 + k * sb4 % 32 / 16 ≡ k * (sb4 / 16)
-  pub two : k * sb4 % 32 / 16 + sb4 / 16 ≤ 2
-  -- bit b of half h, by its place in both halves
-  pub bits-in : (h b : ℕ) → b < 16 → k * sb4 % 32 ≤ 16 * h + b → 16 * h + b < k * sb4 % 32 + sb4
-      → (k * sb4 % 32 / 16 ≤ h) × (h < k * sb4 % 32 / 16 + sb4 / 16)
-  pub bits-out : (h b : ℕ) → b < 16 → k * sb4 % 32 / 16 ≤ h → h < k * sb4 % 32 / 16 + sb4 / 16
-      → (k * sb4 % 32 ≤ 16 * h + b) × (16 * h + b < k * sb4 % 32 + sb4)
+  pub halfNo : recordRow sb4 k * 2 + firstHalf sb4 k ≡ k * (sb4 / 16)
+  pub some : 0 < sb4 / 16
+  pub two : firstHalf sb4 k + sb4 / 16 ≤ 2
 
 pub row-halves : (h4 sb4 k : ℕ) → (sb4 ≡ 16) ⊎ (sb4 ≡ 32) → k * sb4 < h4 → RowHalves h4 sb4 k
 row-halves h4 sb4 k =
     by-sb (λ n. k * n < h4 → RowHalves h4 n k)
-    (λ d. record {
-      down = omega arith;
-      few = omega arith;
-      halfNo = omega arith;
-      two = omega arith;
-      bits-in = λ h b l x y. (omega arith, omega arith);
-      bits-out = λ h b l x y. (omega arith, omega arith);
-    })
-    (λ d. record {
-      down = omega arith;
-      few = omega arith;
-      halfNo = omega arith;
-      two = omega arith;
-      bits-in = λ h b l x y. (omega arith, omega arith);
-      bits-out = λ h b l x y. (omega arith, omega arith);
-    })
+    (λ d. record { down = omega arith; halfNo = omega arith; some = omega arith; two = omega arith })
+    (λ d. record { down = omega arith; halfNo = omega arith; some = omega arith; two = omega arith })
     sb4
 
 pub record RowLines (ss h4 sb4 k : ℕ) : Type 0 where
   pub lines : recordRow sb4 k * (32 / 2 ^ ss) + firstLine ss sb4 k ≡ k * chromaUnit ss sb4
   pub room : firstLine ss sb4 k + chromaUnit ss sb4 ≤ 32 / 2 ^ ss
   pub down : k * chromaUnit ss sb4 < chromaUnits ss h4
-  -- unit b of one of its halves
-  pub mine : (h b : ℕ) → b < halfUnits ss → k * sb4 % 32 / 16 ≤ h → h < k * sb4 % 32 / 16 + sb4 / 16
-      → (firstLine ss sb4 k ≤ h * halfUnits ss + b) × (h * halfUnits ss + b < firstLine ss sb4 k + chromaUnit ss sb4)
+  -- in halves
+  pub many : sb4 / 16 * halfUnits ss ≡ chromaUnit ss sb4
+  pub from : k * (sb4 / 16) * halfUnits ss ≡ k * chromaUnit ss sb4
 
 pub row-lines : (ss h4 sb4 k : ℕ) → ss ≤ 1 → (sb4 ≡ 16) ⊎ (sb4 ≡ 32) → k * sb4 < h4 → RowLines ss h4 sb4 k
 row-lines ss h4 sb4 k h =
     by-sb (λ n. k * n < h4 → RowLines ss h4 n k)
     (by-ss (λ t. k * 16 < h4 → RowLines t h4 16 k)
-    (λ d. record { lines = omega arith; room = omega arith; down = omega arith; mine = λ h b l x y. (omega arith, omega arith) })
-    (λ d. record { lines = omega arith; room = omega arith; down = omega arith; mine = λ h b l x y. (omega arith, omega arith) })
+    (λ d. record { lines = omega arith; room = omega arith; down = omega arith; many = omega arith; from = omega arith })
+    (λ d. record { lines = omega arith; room = omega arith; down = omega arith; many = omega arith; from = omega arith })
     ss h)
     (by-ss (λ t. k * 32 < h4 → RowLines t h4 32 k)
-    (λ d. record { lines = omega arith; room = omega arith; down = omega arith; mine = λ h b l x y. (omega arith, omega arith) })
-    (λ d. record { lines = omega arith; room = omega arith; down = omega arith; mine = λ h b l x y. (omega arith, omega arith) })
+    (λ d. record { lines = omega arith; room = omega arith; down = omega arith; many = omega arith; from = omega arith })
+    (λ d. record { lines = omega arith; room = omega arith; down = omega arith; many = omega arith; from = omega arith })
     ss h)
     sb4

@@ -14,7 +14,7 @@ use Rattle.loops.proofs.Runs.{upTo-again}
 use Rattle.bits.specs.Word.{orBelow}
 use Rattle.bits.proofs.Words.{or-none, or-more}
 use Rattle.gap.specs.declared.track.Track.{Track}
-use Rattle.gap.specs.Track.{clashW, classWord, startT, stepT, unitT, runT, partT, closeT, cut, past, track}
+use Rattle.gap.specs.Track.{clashW, classWord, startT, stepT, unitT, unitAtT, runT, partT, closeT, cut, past, track}
 use Rattle.gap.proofs.Slices.{prevW, atW, bound, oneW, markW, badW}
 
 -- ---- the last three units
@@ -112,10 +112,10 @@ module _ (words : ℕ → ℕ → ℕ) (n : ℕ) where
   unit-cut true u s e = rw e refl
   unit-cut false u s e = rw e refl
 
-  module _ (ms : List ℕ) (luma : Bool) (at : ℕ) where
+  module _ (ms : List ℕ) (luma : Bool) (halves at : ℕ) where
     run-track : (inside : Bool) (from u m : ℕ) → ((i : ℕ) → i < m → ltb (u + i) n ≡ inside)
-        → ((i c : ℕ) → i < m → classWord ms luma at (from + i) c ≡ words (u + i) c) → runT ms luma inside at from m (t u) ≡ t (u + m)
-    unfolding runT track
+        → ((i c : ℕ) → i < m → classWord ms luma halves at (from + i) c ≡ words (u + i) c) → runT ms luma halves inside at from m (t u) ≡ t (u + m)
+    unfolding runT unitAtT track
     run-track inside from u zero f g = ap t (sym (add-zero u))
     run-track inside from u (suc m) f g =
         (λ j. unitT inside (run-track inside from u m (λ i l. f i (omega arith)) (λ i c l. g i c (omega arith)) j) (g m 0 (le-refl (suc m)) j)
@@ -125,15 +125,15 @@ module _ (words : ℕ → ℕ → ℕ) (n : ℕ) where
 
     -- `end` units, those of the frame first
     pub part-track : (from u m end : ℕ) (s r : Track) → m ≡ min end (n - u)
-        → ((i c : ℕ) → i < end → classWord ms luma at (from + i) c ≡ words (u + i) c) → s ≡ t u → r ≡ partT ms luma at from m end s → r ≡ t (u + end)
+        → ((i c : ℕ) → i < end → classWord ms luma halves at (from + i) c ≡ words (u + i) c) → s ≡ t u → r ≡ partT ms luma halves at from m end s → r ≡ t (u + end)
     unfolding partT
     part-track from u m end s r em g es er =
         let e : u + m + (end - m) ≡ u + end = omega arith in
         er
-        ∙ ap (runT ms luma false at (from + m) (end - m))
-        (ap (runT ms luma true at from m) es ∙ run-track true from u m (λ i l. lt-ltb (u + i) n (omega arith)) (λ i c l. g i c (omega arith)))
+        ∙ ap (runT ms luma halves false at (from + m) (end - m))
+        (ap (runT ms luma halves true at from m) es ∙ run-track true from u m (λ i l. lt-ltb (u + i) n (omega arith)) (λ i c l. g i c (omega arith)))
         ∙ run-track false (from + m) (u + m) (end - m) (λ i l. le-ltb (u + m + i) n (omega arith))
-        (λ i c l. ap (λ (k : ℕ). classWord ms luma at k c) (omega arith) ∙ g (m + i) c (omega arith) ∙ ap (λ (k : ℕ). words k c) (omega arith))
+        (λ i c l. ap (λ (k : ℕ). classWord ms luma halves at k c) (omega arith) ∙ g (m + i) c (omega arith) ∙ ap (λ (k : ℕ). words k c) (omega arith))
         ∙ ap t e
 
 -- ---- for the code
@@ -159,8 +159,13 @@ unfolding stepT
 step-make s x y b z r e =
     rw e refl
 
-pub run-more : (ms : List ℕ) (luma inside : Bool) (at from i : ℕ) (s t r : Track) (x y b : ℕ) → t ≡ runT ms luma inside at from i s
-    → x ≡ classWord ms luma at (from + i) 0 → y ≡ classWord ms luma at (from + i) 1 → b ≡ classWord ms luma at (from + i) 2 → r ≡ unitT inside t x y b
-    → r ≡ runT ms luma inside at from (i + 1) s
-unfolding runT
-run-more ms luma inside at from i s t r x y b e ex ey eb er = upTo-again _ i s e (er ∙ (λ j. unitT inside t (ex j) (ey j) (eb j)))
+module _ (ms : List ℕ) (luma : Bool) (halves : ℕ) (inside : Bool) (at : ℕ) where
+  pub unit-at-make : (i x y b : ℕ) (s r : Track) → x ≡ classWord ms luma halves at i 0 → y ≡ classWord ms luma halves at i 1
+      → b ≡ classWord ms luma halves at i 2 → r ≡ unitT inside s x y b → r ≡ unitAtT ms luma halves inside at i s
+  unfolding unitAtT
+  unit-at-make i x y b s r ex ey eb er = er ∙ (λ j. unitT inside s (ex j) (ey j) (eb j))
+
+  pub run-more : (from i : ℕ) (s t r : Track) → t ≡ runT ms luma halves inside at from i s → r ≡ unitAtT ms luma halves inside at (from + i) t
+      → r ≡ runT ms luma halves inside at from (i + 1) s
+  unfolding runT
+  run-more from i s t r e er = upTo-again _ i s e er

@@ -1,22 +1,22 @@
 -- What the walk along the units of a line keeps, for 32 lines at once: bit q of a word is line q.
---   wordAt              the word of the halves at places i and i + 1
+--   wordAt              the word of the half at place i, or of the two halves from there on
 --   stepOf, startOf     the words from a unit to the next, and those before a pass's first unit in a record
---   classWord           the word of class c at unit i, where unit 0 stands at `at`; there is no class 2 in chroma
+--   classWord           the word of class c at unit i, where the first half of unit 0 stands at `at`; there is no class 2 in chroma
 --   clashW              `clashes` of words
 --   startT, stepT       the state before the first unit; and one unit further, whose classes have the words x, y, b, and z past the frame
---   unitT               the same of a unit in the frame or past it
+--   unitT, unitAtT      the same of a unit in the frame or past it; and of the unit stored at i
 --   runT, partT         m units side by side; and `end` of them, n in the frame
 --   closeT              the lines that break the gap rule, the end being a mark of each
 --   cut, past, track    the state after u units of a line, n of which lie in the frame
 --   columnWords         the words of a line along the records from `base` on, `side` units a record
---   columnTrack         the state at the end of the record row of superblock row k
+--   columnTrack         the state at the end of the record row of superblock row k, of the row's own halves
 --   rowWords            the words of a line in one record, from unit `from` on
 --   rowTrack            the state at the end of superblock row k in record g
---   Answers             numbers 11 and 12 of a state: `row` has the bits that belong to the row, `live` those of its lines in the frame
+--   Answers             numbers 11 and 12 of a state, whose words have 32 bits: `live` has those of the lines in the frame
 use mathlib.Core.Path.{_≡_}
 use mathlib.Core.Bool.{Bool, true, false, not, cond}
 use mathlib.Core.List.{List}
-use Prim.Native.Nat.{ℕ, zero, suc, _+_, _-_, _*_, _/_, _%_, _^_}
+use Prim.Native.Nat.{ℕ, zero, suc, _+_, _-_, _*_, _/_, _%_, _^_, _<_}
 use lib.Bits.{bitAnd, bitOr}
 use lib.Dec.{eqb, ltb}
 use lib.ListN.{getD}
@@ -25,10 +25,10 @@ use Rattle.units.specs.Frame.{records}
 use Rattle.units.specs.Units.{chromaUnit, chromaUnits}
 use Rattle.gap.specs.declared.Both.{Both}
 use Rattle.gap.specs.declared.track.Track.{Track}
-use Rattle.gap.specs.Lines.{recordRow, firstLine, rowUnits}
+use Rattle.gap.specs.Lines.{recordRow, firstLine, firstHalf, rowUnits}
 
-unfoldable pub wordAt : List ℕ → ℕ → ℕ
-wordAt ms i = getD ms (i + 1) 0 * 2 ^ 16 + getD ms i 0
+unfoldable pub wordAt : List ℕ → ℕ → ℕ → ℕ
+wordAt ms halves i = cond (eqb halves 2) (getD ms (i + 1) 0) 0 * 2 ^ 16 + getD ms i 0
 
 abbrev pub stepOf : Bool → ℕ
 stepOf luma = cond luma 6 4
@@ -36,8 +36,9 @@ stepOf luma = cond luma 6 4
 abbrev pub startOf : Bool → ℕ → ℕ
 startOf luma pass = cond luma (192 * pass) (384 + 128 * pass)
 
-unfoldable pub classWord : List ℕ → Bool → ℕ → ℕ → ℕ → ℕ
-classWord ms luma at i c = cond luma (wordAt ms (at + 6 * i + 2 * c)) (cond (ltb c 2) (wordAt ms (at + 4 * i + 2 * c)) 0)
+unfoldable pub classWord : List ℕ → Bool → ℕ → ℕ → ℕ → ℕ → ℕ
+classWord ms luma halves at i c =
+    cond luma (wordAt ms halves (at + 6 * i + 2 * c)) (cond (ltb c 2) (wordAt ms halves (at + 4 * i + 2 * c)) 0)
 
 unfoldable pub clashW : ℕ → ℕ → ℕ → ℕ → ℕ → ℕ → ℕ → ℕ → ℕ → ℕ
 clashW m a b m1 m2 m3 a1 b2 b3 = bitOr (bitOr (bitAnd m (bitOr (bitOr a1 b2) b3)) (bitAnd m1 a)) (bitAnd (bitOr m2 m3) b)
@@ -65,12 +66,15 @@ unfoldable pub unitT : Bool → Track → ℕ → ℕ → ℕ → Track
 unitT true s x y b = stepT s x y b 0
 unitT false s x y b = stepT s 0 0 0 (bitOr x (bitOr y b))
 
-unfoldable pub runT : List ℕ → Bool → Bool → ℕ → ℕ → ℕ → Track → Track
-runT ms luma inside at from m =
-    upTo (λ i t. unitT inside t (classWord ms luma at (from + i) 0) (classWord ms luma at (from + i) 1) (classWord ms luma at (from + i) 2)) m
+unfoldable pub unitAtT : List ℕ → Bool → ℕ → Bool → ℕ → ℕ → Track → Track
+unitAtT ms luma halves inside at i s =
+    unitT inside s (classWord ms luma halves at i 0) (classWord ms luma halves at i 1) (classWord ms luma halves at i 2)
 
-unfoldable pub partT : List ℕ → Bool → ℕ → ℕ → ℕ → ℕ → Track → Track
-partT ms luma at from n end s = runT ms luma false at (from + n) (end - n) (runT ms luma true at from n s)
+unfoldable pub runT : List ℕ → Bool → ℕ → Bool → ℕ → ℕ → ℕ → Track → Track
+runT ms luma halves inside at from m = upTo (λ i. unitAtT ms luma halves inside at (from + i)) m
+
+unfoldable pub partT : List ℕ → Bool → ℕ → ℕ → ℕ → ℕ → ℕ → Track → Track
+partT ms luma halves at from n end s = runT ms luma halves false at (from + n) (end - n) (runT ms luma halves true at from n s)
 
 unfoldable pub closeT : Track → ℕ
 closeT s = bitOr (s .bad) (clashW 4294967295 0 0 (s .m1) (s .m2) (s .m3) (s .a1) (s .b2) (s .b3))
@@ -87,21 +91,23 @@ module _ (words : ℕ → ℕ → ℕ) (n : ℕ) where
   track zero = startT
   track (suc u) = stepT (track u) (cut 0 u) (cut 1 u) (cut 2 u) (past u)
 
-unfoldable pub columnWords : List ℕ → Bool → ℕ → ℕ → ℕ → ℕ → ℕ
-columnWords ms luma base side u c = classWord ms luma (base + 640 * (u / side)) (u % side) c
+unfoldable pub columnWords : List ℕ → Bool → ℕ → ℕ → ℕ → ℕ → ℕ → ℕ
+columnWords ms luma halves base side u c = classWord ms luma halves (base + 640 * (u / side)) (u % side) c
 
 unfoldable pub rowWords : List ℕ → Bool → ℕ → ℕ → ℕ → ℕ → ℕ
-rowWords ms luma at from u c = classWord ms luma at (from + u) c
+rowWords ms luma at from u c = classWord ms luma 2 at (from + u) c
 
 abbrev pub columnTrack : List ℕ → Bool → ℕ → ℕ → ℕ → ℕ → Track
 columnTrack ms luma ss w4 sb4 k =
-    track (columnWords ms luma (640 * (recordRow sb4 k * records w4) + startOf luma 0) (32 / 2 ^ ss)) (chromaUnits ss w4) (records w4 * (32 / 2 ^ ss))
+    track (columnWords ms luma (sb4 / 16) (640 * (recordRow sb4 k * records w4) + startOf luma 0 + firstHalf sb4 k) (32 / 2 ^ ss)) (chromaUnits ss w4)
+    (records w4 * (32 / 2 ^ ss))
 
 abbrev pub rowTrack : List ℕ → Bool → ℕ → ℕ → ℕ → ℕ → ℕ → ℕ → Track
 rowTrack ms luma ss w4 h4 sb4 k g =
     track (rowWords ms luma (640 * (recordRow sb4 k * records w4 + g) + startOf luma 1) (firstLine ss sb4 k)) (rowUnits ss h4 sb4 k)
     (chromaUnit ss sb4)
 
-pub record Answers (t : Track) (row live : ℕ) (r : Both) : Type 0 where
+pub record Answers (t : Track) (live : ℕ) (r : Both) : Type 0 where
   pub eleven : r .gap ≡ not (eqb (bitAnd live (closeT t)) 0)
-  pub twelve : r .out ≡ not (eqb (bitOr (bitAnd (t .all) (bitAnd row ((2 ^ 32 - 1) - live))) (bitAnd (t .past) row)) 0)
+  pub twelve : r .out ≡ not (eqb (bitOr (bitAnd (t .all) ((2 ^ 32 - 1) - live)) (t .past)) 0)
+  pub word : t .past < 2 ^ 32

@@ -6,13 +6,13 @@ use track::Track;
 use units::LumaUnit;
 ghost use mathlib.Core.Path.{_≡_};
 ghost use mathlib.Core.Logic.{_⊎_};
-ghost use Prim.Native.Nat.{_+_, _*_, _/_, _%_, _^_, _≤_, _<_};
+ghost use Prim.Native.Nat.{_+_, _*_, _/_, _^_, _≤_, _<_};
 ghost use lib.ListN.{length};
 ghost use Rattle.plane.specs.Line.{columns, rows};
 ghost use Rattle.units.specs.Frame.{records};
 ghost use Rattle.edges.specs.Edges.{gridOf, lumaGrid, chromaGrid, Proper};
 ghost use Rattle.gap.specs.Fits.{MasksFit};
-ghost use Rattle.gap.specs.Lines.{recordRow, rowLines, rowHalves, recordLines};
+ghost use Rattle.gap.specs.Lines.{recordRow, rowLines, recordLines};
 ghost use Rattle.gap.specs.Numbers.{Found, RecordFound};
 ghost use Rattle.gap.specs.Promises.{Promises};
 ghost use Rattle.gap.specs.Track.{stepOf, track, columnWords, columnTrack, rowTrack, Answers};
@@ -23,12 +23,12 @@ pub struct Both {
     pub out: bool,
 }
 
-fn answer(t: Track, row: u32, live: u32) -> Both
-    ensures { λ r. ⌜ Answers t row live r ⌝ }
+fn answer(t: Track, live: u32) -> Both
+    ensures { λ r. ⌜ Answers t live r ⌝ }
 {
     let all = t.all;
     let past = t.past;
-    let out = (all & (row & !live) | past & row) != 0;
+    let out = (all & !live | past) != 0;
     let gap = live & track::close(t) != 0;
     Both { gap, out }
 }
@@ -37,24 +37,25 @@ fn answer(t: Track, row: u32, live: u32) -> Both
 fn columns_walk(
     masks: &[u16],
     luma: bool,
+    halves: usize,
     base: usize,
     ss: usize,
     wide: usize,
     groups: usize,
 ) -> Track
     requires { ⌜ (base + 640 * groups + stepOf luma * 32 ≤ length (now masks) + 640) × (ss ≤ 1) × (groups ≤ 128) ⌝ }
-    ensures { λ r. ⌜ r ≡ track (columnWords (now (masks .entry)) luma base (32 / 2 ^ ss)) wide (groups * (32 / 2 ^ ss)) ⌝ }
+    ensures { λ r. ⌜ r ≡ track (columnWords (now (masks .entry)) luma halves base (32 / 2 ^ ss)) wide (groups * (32 / 2 ^ ss)) ⌝ }
 {
     let side = 32 >> ss;
     let mut t = track::start();
     for g in 0..groups {
         let n = lines::in_record(side, wide, g);
-        t = track::part(masks, luma, base + 640 * g, 0, n, side, t);
+        t = track::part(masks, luma, halves, base + 640 * g, 0, n, side, t);
     }
     t
 }
 
-// The walk along the record row of superblock row k.
+// The walk along the record row of superblock row k, of the row's own halves.
 fn columns_track(
     masks: &[u16],
     luma: bool,
@@ -68,8 +69,9 @@ fn columns_track(
 {
     let groups = units::frame::records_along(w4);
     let wide = units::chroma_units(w4, ss);
-    let base = track::record_start(luma, 0, lines::record_row(sb4, k) * groups);
-    columns_walk(masks, luma, base, ss, wide.0, groups)
+    let at = track::record_start(luma, 0, lines::record_row(sb4, k) * groups);
+    let base = at + lines::first_half(sb4, k);
+    columns_walk(masks, luma, sb4.0 / 16, base, ss, wide.0, groups)
 }
 
 // The bits of the lines of superblock row k.
@@ -77,18 +79,7 @@ fn row_lines(ss: usize, h4: LumaUnit, sb4: LumaUnit, k: usize) -> u32
     requires { ⌜ (ss ≤ 1) × (h4 .0 ≤ 4096) × (k * sb4 .0 < h4 .0) × ((sb4 .0 ≡ 16) ⊎ (sb4 .0 ≡ 32)) ⌝ }
     ensures { λ r. ⌜ r ≡ rowLines ss (h4 .0) (sb4 .0) k ⌝ }
 {
-    let first = lines::first_line(ss, sb4, k);
-    let n = lines::row_units(ss, h4, sb4, k);
-    lines::line_word(16 >> ss, first, first + n)
-}
-
-// The bits of its halves.
-fn row_halves(sb4: LumaUnit, k: usize) -> u32
-    requires { ⌜ (k * sb4 .0 < 4096) × (k * sb4 .0 % 32 + sb4 .0 ≤ 32) ⌝ }
-    ensures { λ r. ⌜ r ≡ rowHalves (sb4 .0) k ⌝ }
-{
-    let s = k * sb4.0 % 32;
-    lines::line_word(16, s, s + sb4.0)
+    lines::line_word(16 >> ss, lines::row_units(ss, h4, sb4, k))
 }
 
 fn columns(
@@ -106,8 +97,7 @@ fn columns(
 {
     let t = columns_track(masks, luma, ssx, w4, sb4, k);
     let live = row_lines(ssy, h4, sb4, k);
-    let row = row_halves(sb4, k);
-    answer(t, row, live)
+    answer(t, live)
 }
 
 // The walk down superblock row k in record g.
@@ -129,7 +119,7 @@ fn rows_track(
     let first = lines::first_line(ss, sb4, k);
     let n = lines::row_units(ss, h4, sb4, k);
     let sb = units::chroma_unit(sb4, ss);
-    track::part(masks, luma, at, first, n, sb.0, track::start())
+    track::part(masks, luma, 2, at, first, n, sb.0, track::start())
 }
 
 // The bits of the lines of record g.
@@ -139,7 +129,7 @@ fn record_lines(ss: usize, w4: LumaUnit, g: usize) -> u32
 {
     let wide = units::chroma_units(w4, ss);
     let n = lines::in_record(32 >> ss, wide.0, g);
-    lines::line_word(16 >> ss, 0, n)
+    lines::line_word(16 >> ss, n)
 }
 
 fn rows_record(
@@ -158,7 +148,7 @@ fn rows_record(
 {
     let t = rows_track(masks, luma, ssy, w4, h4, sb4, k, g);
     let live = record_lines(ssx, w4, g);
-    answer(t, 4294967295, live)
+    answer(t, live)
 }
 
 fn rows(

@@ -4,23 +4,21 @@ use units::least;
 use units::over;
 ghost use mathlib.Core.Path.{_≡_};
 ghost use Prim.Native.Nat.{_-_, _*_, _^_, _≤_, _<_};
-ghost use Rattle.gap.specs.Lines.{lineWord, inRecord, recordRow, firstLine, rowUnits};
+ghost use Rattle.gap.specs.Lines.{lineWord, inRecord, recordRow, firstLine, firstHalf, rowUnits};
 
-fn half_word(from: usize, to: usize) -> u16
-    requires { ⌜ (from ≤ to) × (to ≤ 16) ⌝ }
-    ensures { λ r. ⌜ r ≡ 2 ^ to - 2 ^ from ⌝ }
+fn half_word(n: usize) -> u16
+    requires { ⌜ n ≤ 16 ⌝ }
+    ensures { λ r. ⌜ r ≡ 2 ^ n - 1 ⌝ }
 {
-    bits::run_word(from as u32, (to - from) as u32) as u16
+    bits::run_word(0, n as u32) as u16
 }
 
-// The bits of the lines from `from` on, below `to`, where a half holds h.
-pub fn line_word(h: usize, from: usize, to: usize) -> u32
-    requires { ⌜ (h ≤ 16) × (from ≤ to) × (to ≤ 2 * h) ⌝ }
-    ensures { λ r. ⌜ r ≡ lineWord h from to ⌝ }
+// The bits of the first n lines, where a half holds h.
+pub fn line_word(h: usize, n: usize) -> u32
+    requires { ⌜ (h ≤ 16) × (n ≤ 2 * h) ⌝ }
+    ensures { λ r. ⌜ r ≡ lineWord h n ⌝ }
 {
-    let lo = half_word(least(from, h), least(to, h));
-    let hi = half_word(over(from, h), over(to, h));
-    bits::word(lo, hi)
+    bits::word(half_word(least(n, h)), half_word(over(n, h)))
 }
 
 // The units of record g.
@@ -45,6 +43,14 @@ pub fn first_line(ss: usize, sb4: LumaUnit, k: usize) -> usize
     ensures { λ r. ⌜ r ≡ firstLine ss (sb4 .0) k ⌝ }
 {
     (k * sb4.0 % 32) >> ss
+}
+
+// Its first half there.
+pub fn first_half(sb4: LumaUnit, k: usize) -> usize
+    requires { ⌜ k * sb4 .0 < 4096 ⌝ }
+    ensures { λ r. ⌜ r ≡ firstHalf (sb4 .0) k ⌝ }
+{
+    k * sb4.0 % 32 / 16
 }
 
 // Its lines that lie in the frame.

@@ -1,9 +1,9 @@
 // The walk along the units of a line, for 32 lines at once.
 ghost use mathlib.Core.Path.{_≡_};
-ghost use mathlib.Core.Bool.{cond};
+ghost use mathlib.Core.Bool.{true, false};
 ghost use Prim.Native.Nat.{_+_, _*_, _<_, _≤_};
 ghost use lib.ListN.{length};
-ghost use Rattle.gap.specs.Track.{wordAt, stepOf, startOf, classWord, clashW, startT, stepT, unitT, runT, partT, closeT};
+ghost use Rattle.gap.specs.Track.{wordAt, stepOf, startOf, classWord, clashW, startT, stepT, unitT, unitAtT, runT, partT, closeT};
 
 // Marks, class 1 or more and class 2 of the last three units, and what was found: the lines that break the rule, the edges, and the bits
 // past the frame.
@@ -78,44 +78,83 @@ fn unit(inside: bool, s: Track, x: u32, y: u32, b: u32) -> Track
     step(s, 0, 0, 0, x | (y | b))
 }
 
-fn word(masks: &[u16], at: usize) -> u32
+// A half that is not asked for is not read: another worker may be recording it.
+fn word(masks: &[u16], halves: usize, at: usize) -> u32
     requires { ⌜ at + 1 < length (now masks) ⌝ }
-    ensures { λ r. ⌜ r ≡ wordAt (now (masks .entry)) at ⌝ }
+    ensures { λ r. ⌜ r ≡ wordAt (now (masks .entry)) halves at ⌝ }
 {
-    bits::word(masks[at], masks[at + 1])
+    if halves == 2 {
+        return bits::word(masks[at], masks[at + 1]);
+    }
+    bits::word(masks[at], 0)
 }
 
-fn class_word(masks: &[u16], luma: bool, at: usize, i: usize, c: usize) -> u32
+fn class_word(masks: &[u16], luma: bool, halves: usize, at: usize, i: usize, c: usize) -> u32
     requires { ⌜ (at + stepOf luma * i + stepOf luma ≤ length (now masks)) × (c < 3) ⌝ }
-    ensures { λ r. ⌜ r ≡ classWord (now (masks .entry)) luma at i c ⌝ }
+    ensures { λ r. ⌜ r ≡ classWord (now (masks .entry)) luma halves at i c ⌝ }
 {
     if luma {
-        return word(masks, at + 6 * i + 2 * c);
+        return word(masks, halves, at + 6 * i + 2 * c);
     }
     if c < 2 {
-        return word(masks, at + 4 * i + 2 * c);
+        return word(masks, halves, at + 4 * i + 2 * c);
     }
     0
+}
+
+fn unit_at(
+    masks: &[u16],
+    luma: bool,
+    halves: usize,
+    inside: bool,
+    at: usize,
+    i: usize,
+    s: Track,
+) -> Track
+    requires { ⌜ at + stepOf luma * i + stepOf luma ≤ length (now masks) ⌝ }
+    ensures { λ r. ⌜ r ≡ unitAtT (now (masks .entry)) luma halves inside at i s ⌝ }
+{
+    let x = class_word(masks, luma, halves, at, i, 0);
+    let y = class_word(masks, luma, halves, at, i, 1);
+    let b = class_word(masks, luma, halves, at, i, 2);
+    unit(inside, s, x, y, b)
 }
 
 fn chunk(
     masks: &[u16],
     luma: bool,
-    inside: bool,
+    halves: usize,
     at: usize,
     from: usize,
     m: usize,
     s: Track,
 ) -> Track
     requires { ⌜ at + stepOf luma * (from + m) ≤ length (now masks) ⌝ }
-    ensures { λ r. ⌜ r ≡ runT (now (masks .entry)) luma inside at from m s ⌝ }
+    ensures { λ r. ⌜ r ≡ runT (now (masks .entry)) luma halves true at from m s ⌝ }
 {
     let mut t = s;
     for i in 0..m {
-        let x = class_word(masks, luma, at, from + i, 0);
-        let y = class_word(masks, luma, at, from + i, 1);
-        let b = class_word(masks, luma, at, from + i, 2);
-        t = unit(inside, t, x, y, b);
+        t = unit_at(masks, luma, halves, true, at, from + i, t);
+    }
+    t
+}
+
+// Units past the frame, in a loop of their own: a test more in one loop of all would stay in it.
+fn past(
+    masks: &[u16],
+    luma: bool,
+    halves: usize,
+    at: usize,
+    from: usize,
+    m: usize,
+    s: Track,
+) -> Track
+    requires { ⌜ at + stepOf luma * (from + m) ≤ length (now masks) ⌝ }
+    ensures { λ r. ⌜ r ≡ runT (now (masks .entry)) luma halves false at from m s ⌝ }
+{
+    let mut t = s;
+    for i in 0..m {
+        t = unit_at(masks, luma, halves, false, at, from + i, t);
     }
     t
 }
@@ -123,6 +162,7 @@ fn chunk(
 pub fn part(
     masks: &[u16],
     luma: bool,
+    halves: usize,
     at: usize,
     from: usize,
     n: usize,
@@ -130,10 +170,10 @@ pub fn part(
     s: Track,
 ) -> Track
     requires { ⌜ (at + stepOf luma * (from + end) ≤ length (now masks)) × (n ≤ end) ⌝ }
-    ensures { λ r. ⌜ r ≡ partT (now (masks .entry)) luma at from n end s ⌝ }
+    ensures { λ r. ⌜ r ≡ partT (now (masks .entry)) luma halves at from n end s ⌝ }
 {
-    let t = chunk(masks, luma, true, at, from, n, s);
-    chunk(masks, luma, false, at, from + n, end - n, t)
+    let t = chunk(masks, luma, halves, at, from, n, s);
+    past(masks, luma, halves, at, from + n, end - n, t)
 }
 
 pub fn close(s: Track) -> u32

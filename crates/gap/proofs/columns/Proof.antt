@@ -16,31 +16,19 @@ columns-track-requires c κs =
 row-lines-requires : tie.Need-row-lines-requires
 row-lines-requires c κs = let f = c .before .before .pre .0 in (c .before .before .pre .1 .ssy-le, f .high, f .down, f .size)
 
-row-halves-requires : tie.Need-row-halves-requires
-row-halves-requires c κs =
-    let a = c .before .before .before .args in
-    let f = c .before .before .before .pre .0 in
-    (omega arith, halves-of _ (a .w4 .0) (a .h4 .0) (a .sb4 .0) (a .k) f .few)
-
 answer-requires : tie.Need-answer-requires
 answer-requires c κs = search needs
 
 returns : tie.Need-returns
 returns c =
-    let a = c .before .before .before .before .before .args in
-    let f = c .before .before .before .before .before .pre .0 in
-    let p = c .before .before .before .before .before .pre .1 in
+    let a = c .before .before .before .before .args in
+    let f = c .before .before .before .before .pre .0 in
+    let p = c .before .before .before .before .pre .1 in
     columns-found (gridOf (a .luma) (a .ssx) (a .ssy) (a .w4 .0) (a .h4 .0)) p (a .masks .now)
-    (λ i. omega (arith, c .before .before .before .before .shared-slice-known .given i)) (a .sb4 .0) (a .k)
-    (lines-of _ (a .w4 .0) (a .h4 .0) (a .sb4 .0) (a .k) f (a .ssy) (p .ssy-le)) (halves-of _ (a .w4 .0) (a .h4 .0) (a .sb4 .0) (a .k) f) _ _ _ _
-    (c .before .before .before .columns-track .ensures) (c .before .before .row-lines .ensures) (c .before .row-halves .ensures) (c .answer .ensures)
+    (λ i. omega (arith, c .before .before .before .shared-slice-known .given i)) (a .sb4 .0) (a .k)
+    (lines-of _ (a .w4 .0) (a .h4 .0) (a .sb4 .0) (a .k) f (a .ssy) (p .ssy-le)) (halves-of _ (a .w4 .0) (a .h4 .0) (a .sb4 .0) (a .k) f) _ _ _
+    (c .before .before .columns-track .ensures) (c .before .row-lines .ensures) (c .answer .ensures)
 
 pub columns-spec : {M : Type 1} → statement M
 columns-spec =
-    tie.close
-    (tie.spec
-    columns-track-requires
-    row-lines-requires
-    row-halves-requires
-    answer-requires
-    returns)
+    tie.close (tie.spec columns-track-requires row-lines-requires answer-requires returns)

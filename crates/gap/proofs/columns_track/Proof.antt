@@ -1,11 +1,11 @@
--- `columns_track` meets its contract: the record row lies in the masks, and the walk along it starts at its first record.
+-- `columns_track` meets its contract: the record row lies in the masks, and the walk along it starts at the row's first half of its first record.
 use mathlib.Core.Path.{_∙_}
 use Prim.Native.Nat.{_+_, _*_, _/_, _^_}
 use native.Mathlib.Omega.{arith}
 use borrow.Author.Needs.{needs}
 use Rattle.units.specs.Frame.{records}
 use Rattle.gap.specs.Track.{startOf, track, columnWords}
-use Rattle.gap.proofs.Frames.{records-small, columns-fit}
+use Rattle.gap.proofs.Frames.{start-in, records-small, columns-fit}
 use Rattle.gap.proofs.columns_track.Statement.{statement}
 use Rattle.gap.proofs.columns_track.Tie as tie
 
@@ -38,26 +38,41 @@ record-start-requires c κs =
       ),
     )
 
+first-half-requires : tie.Need-first-half-requires
+first-half-requires c κs = search needs
+
+add-base : tie.Need-add-base
+add-base c =
+    let a = c .before .before .before .before .before .before .args in
+    omega (
+      arith,
+      c .before .record-start .ensures,
+      start-in (a .luma) 0 (omega arith),
+      records-small (a .k * a .sb4 .0 / 32) (records (a .w4 .0)) _ _ (c .before .before .record-row .ensures)
+          (c .before .before .before .before .records-along .ensures) (omega arith) (omega arith),
+    )
+
 columns-walk-requires : tie.Need-columns-walk-requires
 columns-walk-requires c κs =
-    let a = c .before .before .before .before .before .args in
-    let e = c .before .before .before .records-along .ensures in (
-      columns-fit (a .k * a .sb4 .0 / 32) (records (a .w4 .0)) _ _ (c .before .record-row .ensures) e (a .luma) _ _
-          (c .before .before .before .before .before .pre .0) (c .record-start .ensures),
+    let a = c .before .before .before .before .before .before .before .args in
+    let e = c .before .before .before .before .before .records-along .ensures in (
+      columns-fit (a .k * a .sb4 .0 / 32) (records (a .w4 .0)) _ _ (c .before .before .before .record-row .ensures) e (a .luma) _ _ _
+          (c .before .before .before .before .before .before .before .pre .0) (c .before .before .record-start .ensures)
+          (omega (arith, c .before .first-half .ensures)),
       omega arith,
       omega arith,
     )
 
 returns : tie.Need-returns
 returns c =
-    let a = c .before .before .before .before .before .before .args in
-    let g = c .before .before .before .before .records-along .ensures in
-    let l = c .before .before .record-row .ensures in
-    let b = c .before .record-start .ensures
+    let a = c .before .before .before .before .before .before .before .before .args in
+    let g = c .before .before .before .before .before .before .records-along .ensures in
+    let l = c .before .before .before .before .record-row .ensures in
+    let b = c .before .before .before .record-start .ensures
     ∙ (λ i. 640 * (l i * g i) + startOf (a .luma) 0) in
     c .columns-walk .ensures
-    ∙ (λ i. track (columnWords (a .masks .now) (a .luma) (b i) (32 / 2 ^ a .ss)) (c .before .before .before .chroma-units .ensures i)
-    (g i * (32 / 2 ^ a .ss)))
+    ∙ (λ i. track (columnWords (a .masks .now) (a .luma) (a .sb4 .0 / 16) (b i + c .before .before .first-half .ensures i) (32 / 2 ^ a .ss))
+    (c .before .before .before .before .before .chroma-units .ensures i) (g i * (32 / 2 ^ a .ss)))
 
 pub columns-track-spec : {M : Type 1} → statement M
 columns-track-spec =
@@ -68,5 +83,7 @@ columns-track-spec =
     record-row-requires
     mul-record-start
     record-start-requires
+    first-half-requires
+    add-base
     columns-walk-requires
     returns)

@@ -11,10 +11,10 @@ use Rattle.gap.proofs.columns_walk.Statement.{statement}
 use Rattle.gap.proofs.columns_walk.Tie as tie
 
 abbrev Inv-loop : tie.InvT-loop
-Inv-loop masks luma base ss wide groups side t₀ g₀ t g = (g ≤ groups) × (t ≡ track (columnWords masks luma base (32 / 2 ^ ss)) wide (g * (32 / 2 ^ ss)))
+Inv-loop masks luma halves base ss wide groups side t₀ g₀ t g = (g ≤ groups) × (t ≡ track (columnWords masks luma halves base (32 / 2 ^ ss)) wide (g * (32 / 2 ^ ss)))
 
 abbrev μ-loop : tie.MeasureT-loop
-μ-loop masks luma base ss wide groups side t₀ g₀ t g = groups - g
+μ-loop masks luma halves base ss wide groups side t₀ g₀ t g = groups - g
 
 shr-side : tie.Need-shr-side Inv-loop μ-loop
 shr-side c = search needs
@@ -25,7 +25,7 @@ start-requires c κs = search needs
 loop-holds : tie.Need-loop-holds Inv-loop μ-loop
 loop-holds c =
     let a = c .before .before .args in
-    (omega arith, columns-none (a .masks .now) (a .luma) (a .base) (a .ss) (a .wide) (omega arith) _ (c .start .ensures))
+    (omega arith, columns-none (a .masks .now) (a .luma) (a .halves) (a .base) (a .ss) (a .wide) (omega arith) _ (c .start .ensures))
 
 in-record-requires : tie.Need-in-record-requires Inv-loop μ-loop
 in-record-requires c κs = (side-le (c .before .before .before .before .args .ss) (omega arith), omega arith)
@@ -54,7 +54,7 @@ loop-again : tie.Need-loop-again Inv-loop μ-loop
 loop-again c =
     let a = c .before .before .before .before .before .before .args in (
       omega arith,
-      columns-more (a .masks .now) (a .luma) (a .base) (a .ss) (a .wide) (omega arith) (c .before .before .before .loop .g) _ _ _
+      columns-more (a .masks .now) (a .luma) (a .halves) (a .base) (a .ss) (a .wide) (omega arith) (c .before .before .before .loop .g) _ _ _
           (c .before .in-record .ensures) (c .before .before .before .loop .inv .1) (c .part .ensures),
     )
 

@@ -24,13 +24,13 @@ shr-line-word c = search needs
 line-word-requires : tie.Need-line-word-requires
 line-word-requires c κs =
     let k = halves (c .before .before .args .ss) (omega arith) in
-    (k .most, omega arith, omega (arith, c .in-record .ensures, k .two))
+    (k .most, omega (arith, c .in-record .ensures, k .two))
 
 returns : tie.Need-returns
 returns c =
     let a = c .before .before .before .args in
     c .line-word .ensures
-    ∙ ap (lineWord (16 / 2 ^ a .ss) 0) (c .before .in-record .ensures ∙ ap (λ (n : ℕ). inRecord (32 / 2 ^ a .ss) n (a .g))
+    ∙ ap (lineWord (16 / 2 ^ a .ss)) (c .before .in-record .ensures ∙ ap (λ (n : ℕ). inRecord (32 / 2 ^ a .ss) n (a .g))
     (c .before .before .chroma-units .ensures))
 
 pub record-lines-spec : {M : Type 1} → statement M

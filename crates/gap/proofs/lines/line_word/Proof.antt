@@ -7,17 +7,11 @@ use Rattle.gap.proofs.lines.line_word.Tie as tie
 least-requires : tie.Need-least-requires
 least-requires c κs = search needs
 
-least-requires-2 : tie.Need-least-requires-2
-least-requires-2 c κs = search needs
-
 half-word-requires : tie.Need-half-word-requires
 half-word-requires c κs = search needs
 
 over-requires : tie.Need-over-requires
 over-requires c κs = search needs
-
-over-requires-2 : tie.Need-over-requires-2
-over-requires-2 c κs = search needs
 
 half-word-requires-2 : tie.Need-half-word-requires-2
 half-word-requires-2 c κs = search needs
@@ -27,19 +21,16 @@ word-requires c κs = search needs
 
 returns : tie.Need-returns
 returns c =
-    word-make _ _ _ _ _ _ _ _ _ _ (c .before .before .before .before .before .before .least .ensures)
-    (c .before .before .before .before .before .least2 .ensures) (c .before .before .before .over .ensures) (c .before .before .over2 .ensures)
-    (c .before .before .before .before .half-word .ensures) (c .before .half-word2 .ensures) (c .word .ensures)
+    word-make _ _ _ _ _ _ _ (c .before .before .before .before .least .ensures) (c .before .before .over .ensures)
+    (c .before .before .before .half-word .ensures) (c .before .half-word2 .ensures) (c .word .ensures)
 
 pub line-word-spec : {M : Type 1} → statement M
 line-word-spec =
     tie.close
     (tie.spec
     least-requires
-    least-requires-2
     half-word-requires
     over-requires
-    over-requires-2
     half-word-requires-2
     word-requires
     returns)

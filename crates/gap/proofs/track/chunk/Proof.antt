@@ -1,4 +1,5 @@
 -- `chunk` meets its contract: the units passed have been taken on, one by one.
+use mathlib.Core.Bool.{true}
 use mathlib.Core.Path.{_≡_, refl}
 use Prim.Native.Nat.{_+_, _-_, _≤_}
 use native.Mathlib.Omega.{arith}
@@ -10,51 +11,22 @@ use Rattle.gap.proofs.track.chunk.Statement.{statement}
 use Rattle.gap.proofs.track.chunk.Tie as tie
 
 abbrev Inv-loop : tie.InvT-loop
-Inv-loop masks luma inside at from m t₀ i₀ t i = (i ≤ m) × (t ≡ runT masks luma inside at from i t₀)
+Inv-loop masks luma halves at from m t₀ i₀ t i = (i ≤ m) × (t ≡ runT masks luma halves true at from i t₀)
 
 abbrev μ-loop : tie.MeasureT-loop
-μ-loop masks luma inside at from m t₀ i₀ t i = m - i
+μ-loop masks luma halves at from m t₀ i₀ t i = m - i
 
 loop-holds : tie.Need-loop-holds Inv-loop μ-loop
 unfolding runT
 loop-holds c = (omega arith, refl)
 
-add-class-word : tie.Need-add-class-word Inv-loop μ-loop
-add-class-word c = let a = c .before .before .before .args in omega (arith, few-units (a .luma) (a .from + a .m), c .before .before .before .pre)
+add-unit-at : tie.Need-add-unit-at Inv-loop μ-loop
+add-unit-at c = let a = c .before .before .before .args in omega (arith, few-units (a .luma) (a .from + a .m), c .before .before .before .pre)
 
-class-word-requires : tie.Need-class-word-requires Inv-loop μ-loop
-class-word-requires c κs = (
-  let a = c .before .before .before .args in unit-in (a .luma) (a .at) (a .from + c .before .loop .i) (a .from + a .m) _ (omega arith)
-      (c .before .before .before .pre),
-  omega arith,
-)
-
-add-class-word-2 : tie.Need-add-class-word-2 Inv-loop μ-loop
-add-class-word-2 c =
-    let a = c .before .before .before .before .args in
-    omega (arith, few-units (a .luma) (a .from + a .m), c .before .before .before .before .pre)
-
-class-word-requires-2 : tie.Need-class-word-requires-2 Inv-loop μ-loop
-class-word-requires-2 c κs = (
-  let a = c .before .before .before .before .args in unit-in (a .luma) (a .at) (a .from + c .before .before .loop .i) (a .from + a .m) _
-      (omega arith) (c .before .before .before .before .pre),
-  omega arith,
-)
-
-add-class-word-3 : tie.Need-add-class-word-3 Inv-loop μ-loop
-add-class-word-3 c =
-    let a = c .before .before .before .before .before .args in
-    omega (arith, few-units (a .luma) (a .from + a .m), c .before .before .before .before .before .pre)
-
-class-word-requires-3 : tie.Need-class-word-requires-3 Inv-loop μ-loop
-class-word-requires-3 c κs = (
-  let a = c .before .before .before .before .before .args in unit-in (a .luma) (a .at) (a .from + c .before .before .before .loop .i)
-      (a .from + a .m) _ (omega arith) (c .before .before .before .before .before .pre),
-  omega arith,
-)
-
-unit-requires : tie.Need-unit-requires Inv-loop μ-loop
-unit-requires c κs = search needs
+unit-at-requires : tie.Need-unit-at-requires Inv-loop μ-loop
+unit-at-requires c κs =
+    let a = c .before .before .before .args in
+    unit-in (a .luma) (a .at) (a .from + c .before .loop .i) (a .from + a .m) _ (omega arith) (c .before .before .before .pre)
 
 add-i : tie.Need-add-i Inv-loop μ-loop
 add-i c = search needs
@@ -63,11 +35,7 @@ loop-less : tie.Need-loop-less Inv-loop μ-loop
 loop-less c = search needs
 
 loop-again : tie.Need-loop-again Inv-loop μ-loop
-loop-again c = (
-  omega arith,
-  run-more _ _ _ _ _ _ _ _ _ _ _ _ (c .before .before .before .before .before .loop .inv .1)
-      (c .before .before .before .class-word .ensures) (c .before .before .class-word2 .ensures) (c .before .class-word3 .ensures) (c .unit .ensures),
-)
+loop-again c = (omega arith, run-more _ _ _ _ _ _ _ _ _ _ (c .before .before .loop .inv .1) (c .unit-at .ensures))
 
 returns : tie.Need-returns Inv-loop μ-loop
 returns c = let e : c .before .loop .i ≡ c .before .before .before .args .m = omega arith in rw (← e) (c .before .loop .inv .1)
@@ -75,18 +43,4 @@ returns c = let e : c .before .loop .i ≡ c .before .before .before .args .m = 
 pub chunk-spec : {M : Type 1} → statement M
 chunk-spec =
     tie.close
-    (tie.spec
-    Inv-loop
-    μ-loop
-    loop-holds
-    add-class-word
-    class-word-requires
-    add-class-word-2
-    class-word-requires-2
-    add-class-word-3
-    class-word-requires-3
-    unit-requires
-    add-i
-    loop-less
-    loop-again
-    returns)
+    (tie.spec Inv-loop μ-loop loop-holds add-unit-at unit-at-requires add-i loop-less loop-again returns)
