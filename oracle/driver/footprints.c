@@ -1,6 +1,7 @@
-// footprints COUNT SEED MAP: makes COUNT calls of the archive under the emulator with the plugin watch.c, and holds every load and
-// store of lent memory to table.h. A call is wrong if it loads or stores what the table does not let it, stores a mask word in which
-// it records no bit, or answers another number than number.h. It ends in a table of what was seen.
+// footprints COUNT SEED MAP: makes COUNT calls of the archive under the emulator with the plugin watch.c,
+// and holds every load and store of lent memory to table.h. A call is wrong if it loads or stores what the
+// table does not let it, stores a mask word in which it records no bit, or answers another number than
+// number.h. It ends in a table of what was seen.
 
 #include "call.h"
 #include "libc.h"
@@ -26,13 +27,14 @@ static u8 *marks_of(const void *at) { return map + ((const u8 *)at - arena); }
 
 // ---- what was seen, by call
 
-// An accepted call's place in its 128x128 records: of a block the quarter that it begins in, of a tile's first column the half and the
-// row's, of a superblock row its half; a superblock of 128 has all.
+// An accepted call's place in its 128x128 records: of a block the quarter that it begins in, of a tile's
+// first column the half and the row's, of a superblock row its half; a superblock of 128 has all.
 enum { LAYOUTS = 4, DEPTHS = 3, SUPERBLOCKS = 2, PLACES = 4 };
 static const char *const PLACE[PLACES] = {"upper left", "upper right", "lower left", "lower right"};
 
 static struct seen {
-    u64 calls, accepted, wrong, told, layout[LAYOUTS], depth[DEPTHS], superblock[SUPERBLOCKS], place[PLACES];
+    u64 calls, accepted, wrong, told, layout[LAYOUTS], depth[DEPTHS], superblock[SUPERBLOCKS],
+        place[PLACES];
     u64 may_load, loaded, may_store, stored; // bytes of accepted calls
 } seen[CALL_COUNT];
 
@@ -63,10 +65,12 @@ static void describe(const struct asked *a, const char *what, int n, size_t byte
     printf("[%lu]", at);
     if (l == &a->masks) {
         size_t in = at % 640, p = in >= 384, classes = p ? 2 : 3, word = p ? in - 384 : in;
-        printf(", record %lu, %s, pass %lu, unit %lu, class %lu, half %lu", at / 640, p ? "chroma" : "luma", word / (64 * classes),
-               word / (2 * classes) % 32, word / 2 % classes, word % 2);
+        printf(", record %lu, %s, pass %lu, unit %lu, class %lu, half %lu", at / 640,
+               p ? "chroma" : "luma", word / (64 * classes), word / (2 * classes) % 32, word / 2 % classes,
+               word % 2);
     }
-    if (l == &a->levels) printf(", unit (%lu, %lu), byte %lu", at / 4 % a->stride, at / 4 / a->stride, at % 4);
+    if (l == &a->levels)
+        printf(", unit (%lu, %lu), byte %lu", at / 4 % a->stride, at / 4 / a->stride, at % 4);
     if (n < 3) printf(", line %lu, sample %lu", at / stride_of(a, n), at % stride_of(a, n));
     printf(";");
     print_arguments(a);
@@ -131,7 +135,8 @@ static void make_call(struct asked *a, u64 seed) {
     else {
         take_accepted(a);
         if (once_in(8)) take_faults(a, PICK(1, 1, 2));
-        if (a->call->kind == RECORD && once_in(2)) memset(a->masks.before, 0, a->masks.length * a->masks.size);
+        if (a->call->kind == RECORD && once_in(2))
+            memset(a->masks.before, 0, a->masks.length * a->masks.size);
     }
     u32 lent = a->call->reads | a->call->writes;
     for (int n = 0; n < BUFFERS; n++)
@@ -171,23 +176,30 @@ static int is_watched(void) {
 static int print_cells(const char *name, const u64 *cell, int count, const char *const *names) {
     int is_full = 1;
     printf("  %s:", name);
-    for (int n = 0; n < count; n++) printf("%s %s %lu", n ? "," : "", names[n], cell[n]), is_full &= cell[n] > 0;
+    for (int n = 0; n < count; n++)
+        printf("%s %s %lu", n ? "," : "", names[n], cell[n]), is_full &= cell[n] > 0;
     printf("\n");
     return is_full;
 }
 
 static int print_seen(const struct seen *s, const struct call *c) {
     int is_full = 1;
-    printf("%s: %lu calls, %lu accepted; of the bytes that may be loaded %lu of %lu were, stored %lu of %lu; %lu wrong\n", c->name,
-           s->calls, s->accepted, s->loaded, s->may_load, s->stored, s->may_store, s->wrong);
+    printf("%s: %lu calls, %lu accepted; of the bytes that may be loaded %lu of %lu were, stored %lu of "
+           "%lu; %lu wrong\n",
+           c->name, s->calls, s->accepted, s->loaded, s->may_load, s->stored, s->may_store, s->wrong);
     if (c->kind >= LEVELS && c->kind != LIST)
-        is_full &= print_cells("layout", s->layout, LAYOUTS, (const char *const[]){"400", "420", "422", "444"});
-    if (c->is_wide) is_full &= print_cells("depth", s->depth, DEPTHS, (const char *const[]){"8", "10", "12"});
+        is_full &=
+            print_cells("layout", s->layout, LAYOUTS, (const char *const[]){"400", "420", "422", "444"});
+    if (c->is_wide)
+        is_full &= print_cells("depth", s->depth, DEPTHS, (const char *const[]){"8", "10", "12"});
     if (c->kind >= CORRECT && c->kind != LIST)
-        is_full &= print_cells("superblock", s->superblock, SUPERBLOCKS, (const char *const[]){"64", "128"});
-    if (c->kind == RECORD || (c->kind == CORRECT && !c->is_rows)) is_full &= print_cells("place", s->place, PLACES, PLACE);
+        is_full &=
+            print_cells("superblock", s->superblock, SUPERBLOCKS, (const char *const[]){"64", "128"});
+    if (c->kind == RECORD || (c->kind == CORRECT && !c->is_rows))
+        is_full &= print_cells("place", s->place, PLACES, PLACE);
     if (c->kind == FILTER || (c->kind == CORRECT && c->is_rows))
-        is_full &= print_cells("half", (const u64[]){s->place[0], s->place[2]}, 2, (const char *const[]){"upper", "lower"});
+        is_full &= print_cells("half", (const u64[]){s->place[0], s->place[2]}, 2,
+                               (const char *const[]){"upper", "lower"});
     return is_full;
 }
 
@@ -206,7 +218,8 @@ int main(int count, char **words) {
         make_call(&asked, seed);
     }
     dprintf(2, "\rfootprints: %lu calls\n", made);
-    for (int c = 0; c < CALL_COUNT; c++) is_full &= print_seen(&seen[c], &CALLS[c]), all_wrong += seen[c].wrong;
+    for (int c = 0; c < CALL_COUNT; c++)
+        is_full &= print_seen(&seen[c], &CALLS[c]), all_wrong += seen[c].wrong;
     if (!is_full) printf("a cell is empty\n");
     if (!is_zero(map, ARENA)) printf("memory was reached that is not lent\n"), all_wrong++;
     printf("%lu calls, %lu wrong\n", calls, all_wrong);

@@ -1,9 +1,10 @@
-// The table of loads and stores in docs/USING.md, written a second time: what a call may load and store, by the geometry of
-// number.h and by what is lent as it was before the call.
+// The table of loads and stores in docs/USING.md, written a second time: what a call may load and store,
+// by the geometry of number.h and by what is lent as it was before the call.
 
 enum { LOAD = 1, STORE = 2 };
 
-// What may be done to each byte that is lent; and of each mask word, the bits of the block that is recorded.
+// What may be done to each byte that is lent; and of each mask word, the bits of the block that is
+// recorded.
 struct table {
     u8 *may[BUFFERS];
     u16 *block;
@@ -14,23 +15,29 @@ static void make_table(struct table *t) {
     t->block = pages(ROOM, READ_WRITE);
 }
 
-static void let(struct table *t, const struct asked *a, const struct lent *l, size_t from, size_t count, u8 what) {
+static void let(struct table *t, const struct asked *a, const struct lent *l, size_t from, size_t count,
+                u8 what) {
     u8 *may = t->may[l - a->lent];
-    for (size_t n = from * l->size; n < (from + count) * l->size && n < l->length * l->size; n++) may[n] |= what;
+    for (size_t n = from * l->size; n < (from + count) * l->size && n < l->length * l->size; n++)
+        may[n] |= what;
 }
 
-static void let_all(struct table *t, const struct asked *a, const struct lent *l, u8 what) { let(t, a, l, 0, l->length, what); }
+static void let_all(struct table *t, const struct asked *a, const struct lent *l, u8 what) {
+    let(t, a, l, 0, l->length, what);
+}
 
 // ---- recording and correcting
 
 // The words of the block's units, in the halves that it lies in, of both passes.
-static void let_block_masks(struct table *t, const struct asked *a, int p, long x, long y, long w, long h) {
+static void let_block_masks(struct table *t, const struct asked *a, int p, long x, long y, long w,
+                            long h) {
     struct plane q = plane(a, p);
     long wide = 32 >> q.ss_hor, high = 32 >> q.ss_ver;
     size_t record = y / high * across(a) + x / wide;
     for (int pass = 0; pass < 2; pass++) {
         long first = pass ? y % high : x % wide, units = pass ? h : w;
-        long from = pass ? x % wide : y % high, along = pass ? w : h, holds = 16 >> (pass ? q.ss_hor : q.ss_ver);
+        long from = pass ? x % wide : y % high, along = pass ? w : h,
+             holds = 16 >> (pass ? q.ss_hor : q.ss_ver);
         for (long unit = first; unit < first + units; unit++)
             for (int c = 0; c < (p ? 2 : 3); c++)
                 for (long place = from; place < from + along; place++) {
@@ -46,15 +53,18 @@ static void let_block(struct table *t, const struct asked *a, int p) {
     long x = a->x >> q.ss_hor, y = a->y >> q.ss_ver, w = units_along(a, p, 0), h = units_along(a, p, 1);
     size_t reference = a->call->is_inter ? a->reference : 0, mode = a->call->is_inter && a->mode;
     if (w == 0) return;
-    for (size_t kind = p ? 2 : 0, n = 0; n < 2; n++) let(t, a, &a->values, ((kind + n) * 8 + reference) * 2 + mode, 1, LOAD);
+    for (size_t kind = p ? 2 : 0, n = 0; n < 2; n++)
+        let(t, a, &a->values, ((kind + n) * 8 + reference) * 2 + mode, 1, LOAD);
     for (long j = y; j < y + h; j++)
-        for (long i = x; i < x + w; i++) let(t, a, &a->levels, 4 * (j * a->stride + i) + (p ? 2 : 0), 2, STORE);
+        for (long i = x; i < x + w; i++)
+            let(t, a, &a->levels, 4 * (j * a->stride + i) + (p ? 2 : 0), 2, STORE);
     let_block_masks(t, a, p, x, y, w, h);
 }
 
 static void let_contexts(struct table *t, struct asked *a, u8 what) {
     for (int p = 0; p < planes_recorded(a); p++)
-        for (int is_left = 0; is_left < 2; is_left++) let(t, a, context(a, p, is_left), 0, units_along(a, p, is_left), what);
+        for (int is_left = 0; is_left < 2; is_left++)
+            let(t, a, context(a, p, is_left), 0, units_along(a, p, is_left), what);
 }
 
 static void let_record(struct table *t, struct asked *a, u32 number) {
@@ -72,7 +82,8 @@ static void let_correct(struct table *t, struct asked *a, u32 number) {
         struct span row = row_units(a, q);
         for (long n = 0; n < units_along(a, p, !rows); n++)
             for (int c = 0; c < (p ? 2 : 3); c++) {
-                long x = rows ? n : (long)(a->start * a->superblock / 4) >> q.ss_hor, y = rows ? row.from : row.from + n;
+                long x = rows ? n : (long)(a->start * a->superblock / 4) >> q.ss_hor,
+                     y = rows ? row.from : row.from + n;
                 let(t, a, &a->masks, bit_at(a, p, x, y, c).word, 1, LOAD | STORE);
             }
     }
@@ -94,7 +105,8 @@ static void let_piece(struct table *t, const struct asked *a, int p, long x, lon
     for (long n = 0; n < 4; n++)
         for (long d = -reads; d < reads; d++) {
             long column = 4 * x + (a->call->is_rows ? n : d), line = 4 * y + (a->call->is_rows ? d : n);
-            let(t, a, &a->lent[p], line * stride_of(a, p) + column, 1, -writes <= d && d < writes ? LOAD | STORE : LOAD);
+            let(t, a, &a->lent[p], line * stride_of(a, p) + column, 1,
+                -writes <= d && d < writes ? LOAD | STORE : LOAD);
         }
 }
 
@@ -104,7 +116,8 @@ static void let_pieces(struct table *t, const struct asked *a, int p) {
     for (long y = row.from; y < least(row.to, q.h4); y++)
         for (long x = 0; x < q.w4; x++) {
             int c = edge(a, p, x, y);
-            if (c >= 0 && (a->call->is_rows ? y : x) > 0 && level_used(a, p, x, y)) let_piece(t, a, p, x, y, c);
+            if (c >= 0 && (a->call->is_rows ? y : x) > 0 && level_used(a, p, x, y))
+                let_piece(t, a, p, x, y, c);
         }
 }
 
@@ -113,7 +126,8 @@ static void let_filter(struct table *t, const struct asked *a, u32 number) {
     for (int p = 0; p < planes_filtered(a); p++) {
         struct plane q = plane(a, p);
         struct span units = levels_looked_at(a, q), lines = samples_looked_at(a, q);
-        for (long y = units.from; y < units.to; y++) let(t, a, &a->levels, 4 * y * a->stride, 4 * q.w4, LOAD);
+        for (long y = units.from; y < units.to; y++)
+            let(t, a, &a->levels, 4 * y * a->stride, 4 * q.w4, LOAD);
         if (number && number < 9) continue;
         for (long y = lines.from; a->call->is_wide && y < lines.to; y++)
             let(t, a, &a->lent[p], y * stride_of(a, p), q.wide, LOAD);
@@ -149,7 +163,8 @@ static void let_list(struct table *t, const struct asked *a, size_t length) {
 // `answer` is the number, of the listing its length.
 static void fill_table(struct table *t, struct asked *a, size_t answer) {
     for (int n = 0; n < BUFFERS; n++)
-        if ((a->call->reads | a->call->writes) >> n & 1) memset(t->may[n], 0, a->lent[n].length * a->lent[n].size);
+        if ((a->call->reads | a->call->writes) >> n & 1)
+            memset(t->may[n], 0, a->lent[n].length * a->lent[n].size);
     if (a->call->kind == RECORD) memset(t->block, 0, a->masks.length * a->masks.size);
     switch (a->call->kind) {
     case LIMITS:

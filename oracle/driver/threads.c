@@ -1,6 +1,7 @@
-// threads COUNT SEED: two threads make calls at the same moment, COUNT times for each case: the blocks of two tiles that meet in a
-// 128x128 record, and every pair of calls that the second table of docs/USING.md lets run together, which is written here a second
-// time. What the threads leave must be what the calls leave in turn. It ends in a table of the cases.
+// threads COUNT SEED: two threads make calls at the same moment, COUNT times for each case: the blocks of
+// two tiles that meet in a 128x128 record, and every pair of calls that the second table of docs/USING.md
+// lets run together, which is written here a second time. What the threads leave must be what the calls
+// leave in turn. It ends in a table of the cases.
 
 #include "call.h"
 #include "libc.h"
@@ -12,9 +13,13 @@
 #include "table.h"
 
 int pthread_create(u64 *, const void *, void *(*)(void *), void *);
+int sched_getaffinity(int, size_t, u64 *);
+int sched_setaffinity(int, size_t, const u64 *);
 
 enum { RECORDS = 8, MOST_CALLS = 2 * RECORDS };
-enum { SHARED = LENT(luma) | LENT(u) | LENT(v) | LENT(levels) | LENT(masks) | LENT(values) | LENT(e) | LENT(i) };
+enum {
+    SHARED = LENT(luma) | LENT(u) | LENT(v) | LENT(levels) | LENT(masks) | LENT(values) | LENT(e) | LENT(i)
+};
 
 // The calls of two workers; memory that is not shared is a worker's own.
 static struct work {
@@ -26,13 +31,16 @@ static struct table tables[2];
 
 // ---- the second table: which calls may be in progress at the same moment
 
-static long row_of(const struct asked *a) { return a->call->kind == RECORD ? a->y / (a->superblock / 4) : a->row; }
+static long row_of(const struct asked *a) {
+    return a->call->kind == RECORD ? a->y / (a->superblock / 4) : a->row;
+}
 
 static int are_apart(long from, long count, long other_from, long other_count) {
     return from + count <= other_from || other_from + other_count <= from;
 }
 
-// In different superblocks, so in different tiles if need be; or with no column and no row of units in common.
+// In different superblocks, so in different tiles if need be; or with no column and no row of units in
+// common.
 static int may_record(const struct asked *a, const struct asked *b) {
     size_t sb4 = a->superblock / 4;
     if (a->x / sb4 != b->x / sb4 || a->y / sb4 != b->y / sb4) return 1;
@@ -45,7 +53,8 @@ static int may_record(const struct asked *a, const struct asked *b) {
     return 1;
 }
 
-// A block of superblock row j with a pass of row k. In 4:2:0 the chroma bytes of a row lie beside luma bytes of others.
+// A block of superblock row j with a pass of row k. In 4:2:0 the chroma bytes of a row lie beside luma
+// bytes of others.
 static int may_record_and_filter(const struct asked *block, const struct asked *pass) {
     long j = row_of(block), k = row_of(pass), above = pass->call->is_rows;
     if (k - above <= j && j <= k) return 0;
@@ -67,7 +76,8 @@ static int may_run_together(const struct asked *a, const struct asked *b) {
     if (a->call->kind == RECORD && b->call->kind == FILTER) return may_record_and_filter(a, b);
     if (a->call->kind == FILTER) return may_filter(a, b);
     if (a->call->kind == CORRECT && a->call->is_rows != b->call->is_rows) return 1; // of different passes
-    return row_of(a) != row_of(b) || (a->call->kind == CORRECT && b->call->kind == CORRECT && a->start != b->start && !a->call->is_rows);
+    if (row_of(a) != row_of(b)) return 1;
+    return b->call->kind == CORRECT && a->call->kind == CORRECT && !a->call->is_rows && a->start != b->start;
 }
 
 // Rows of neighbours at 8 bits may if their boundary keeps the gap rule: so the samples decide.
@@ -147,7 +157,8 @@ static void begin(struct asked *a, int call) {
     set_sizes(a);
 }
 
-// The tiles are the halves of RECORDS records in a line: blocks of 64x64 with transforms of 4x4; some inter ones are split instead.
+// The tiles are the halves of RECORDS records in a line: blocks of 64x64 with transforms of 4x4; some
+// inter ones are split instead.
 static void take_tiles(const struct test *t) {
     struct asked *first = &work[0].call[0];
     for (int w = 0; w < 2; w++) {
@@ -193,8 +204,8 @@ static void take_place(struct asked *a) {
     a->start = below((a->width - 1) / a->superblock + 1);
     if (a->call->kind != RECORD) return;
     do take_block(a);
-    while (BLOCK[a->block].wide > (long)a->superblock / 4 || BLOCK[a->block].high > (long)a->superblock / 4 ||
-           units_along(a, 0, 0) == 0);
+    while (BLOCK[a->block].wide > (long)a->superblock / 4 ||
+           BLOCK[a->block].high > (long)a->superblock / 4 || units_along(a, 0, 0) == 0);
 }
 
 static void take_worker(struct asked *a) {
@@ -207,7 +218,9 @@ static void take_worker(struct asked *a) {
     }
 }
 
-static int is_wide_pair(const struct test *t) { return CALLS[t->call[0]].is_wide || CALLS[t->call[1]].is_wide; }
+static int is_wide_pair(const struct test *t) {
+    return CALLS[t->call[0]].is_wide || CALLS[t->call[1]].is_wide;
+}
 
 // Whether a pair was found that may run together; the two tables must agree on it.
 static int take_pair(const struct test *t) {
@@ -245,16 +258,28 @@ static int take_pair(const struct test *t) {
 // ---- two threads
 
 static u64 asked_round, here_round, done_round;
-static u64 start_at, later[2]; // by the processor's clock: when the calls begin, and how much later each worker's do
+static u64 start_at,
+    later[2]; // by the processor's clock: when the calls begin, and how much later each worker's do
 
 static void make_calls(struct work *w) {
-    while (__builtin_ia32_rdtsc() - later[w - work] < __atomic_load_n(&start_at, __ATOMIC_ACQUIRE)) {}
+    while (__builtin_ia32_rdtsc() - later[w - work] < __atomic_load_n(&start_at, __ATOMIC_ACQUIRE)) {
+    }
     w->began = __builtin_ia32_rdtsc();
     for (int n = 0; n < w->count; n++) w->refused += w->call[n].call->ask(&w->call[n]) != 0;
     w->ended = __builtin_ia32_rdtsc();
 }
 
+// On the worker's own processor, of the first 64.
+static void stay(int worker) {
+    u64 all[16] = {0}, own[16] = {0};
+    sched_getaffinity(0, sizeof all, all);
+    own[0] = all[0] & -all[0];
+    if (worker && all[0] != own[0]) own[0] = (all[0] ^ own[0]) & -(all[0] ^ own[0]);
+    sched_setaffinity(0, sizeof own, own);
+}
+
 static void *serve(void *nothing) {
+    stay(1);
     for (u64 round = 1;; round++) {
         while (__atomic_load_n(&asked_round, __ATOMIC_ACQUIRE) != round) __builtin_ia32_pause();
         __atomic_store_n(&here_round, round, __ATOMIC_RELEASE);
@@ -305,7 +330,8 @@ static void lend_to_calls(void) {
             struct asked *a = &work[w].call[k];
             for (int n = 0; n < BUFFERS; n++)
                 if (SHARED >> n & 1) a->lent[n].at = rooms[0][n];
-                else if ((a->call->reads | a->call->writes) >> n & 1) add_array(&a->lent[n], n, rooms[w][n] + k * PAGE);
+                else if ((a->call->reads | a->call->writes) >> n & 1)
+                    add_array(&a->lent[n], n, rooms[w][n] + k * PAGE);
         }
 }
 
@@ -375,6 +401,7 @@ int main(int count, char **words) {
     }
     list_pairs();
     if (pthread_create(&thread, 0, serve, 0)) return 2;
+    stay(0);
     for (struct test *t = tests; t < tests + test_count; t++) {
         dprintf(2, "\rthreads: case %lu of %d", t - tests + 1, test_count);
         state = seed + (t - tests);
