@@ -4,7 +4,9 @@
 // that hold, the lowest, each given exactly when docs/01-scope.md says ("Numbers returned"). If it is not DEBLOCK_OK, nothing
 // is stored. What it answers and stores is its contract in crate `deblock`, proved (docs/CONTRACTS.md). C leaves to
 // the caller: a pointer is aligned, is not null, even of length 0, and has as many elements behind it as its length,
-// or the number in brackets; and what is lent to a call and not const overlaps nothing else that is lent to it.
+// or the number in brackets; and what is lent to a call and not const overlaps nothing else that is lent to it. Calls on
+// several threads may be lent the same arrays: docs/USING.md has the elements that each may load and store, and so which calls
+// may be in progress together. That is held by runs, not proved: the proofs are about calls one after another.
 #ifndef DEBLOCK_H
 #define DEBLOCK_H
 
@@ -76,7 +78,8 @@ uint32_t deblock_record_inter(uint8_t *levels, size_t levels_len, size_t stride,
 // The edges at a tile's start, before both passes of superblock row `row`: each takes the lesser of its class and
 // its context's, which is what the tile before left. _column is for the tile whose first superblock is `start`, and
 // left begins at the row's first unit; _row for a tile row that starts here, along the whole width. Answers 4, 6, 7,
-// 10, or 0: corrected, and every other bit is as before. At start 0 _column stores nothing, at row 0 _row.
+// 10, or 0: corrected, and every other bit is as before. At start 0 _column stores nothing, at row 0 _row. A forgotten
+// _column is DEBLOCK_GAP in most frames; a forgotten _row is noticed by no call.
 uint32_t deblock_correct_column(uint16_t *masks, size_t masks_len, uint32_t width, uint32_t height, uint32_t layout,
                                 uint32_t superblock, uint32_t row, uint32_t start, const uint8_t *left,
                                 size_t left_len, const uint8_t *left_uv, size_t left_uv_len);
@@ -86,8 +89,8 @@ uint32_t deblock_correct_row(uint16_t *masks, size_t masks_len, uint32_t width, 
 
 // One pass of superblock row `row`, over luma and, unless the layout is 400 or both chroma base levels (level_u,
 // level_v) are 0, over U and V. rows of a superblock row come after columns of it and of the row above; docs/PROOFS.md,
-// "Two workers share a frame", says which calls may change places. depth is 8, 10 or 12. Answers 2, 3 (_16 alone),
-// 4, 7, 8, 9, 10, 11, 12, or 0: the planes are filtered.
+// "Two workers share a frame", says which calls may change places, made one after another. depth is 8, 10 or 12. Answers 2,
+// 3 (_16 alone), 4, 7, 8, 9, 10, 11, 12, or 0: the planes are filtered.
 uint32_t deblock_columns_8(uint8_t *luma, size_t luma_len, size_t luma_stride, uint8_t *u, size_t u_len, uint8_t *v,
                            size_t v_len, size_t chroma_stride, const uint8_t *levels, size_t levels_len,
                            size_t stride, const uint16_t *masks, size_t masks_len, const uint8_t e[64],

@@ -78,7 +78,7 @@ pub fn columns_8(planes: &mut Planes<u8>, pass: &Pass, row: u32) -> Result<(), R
     pass!(deblock_columns_8, planes, pass, row)
 }
 
-/// Filters the row edges of superblock row `row` at depth 8, once the columns of it and of all rows above are done.
+/// Filters the row edges of superblock row `row` at depth 8, once the columns of it and of the row above are done.
 ///
 /// Refused as [`columns_8`].
 pub fn rows_8(planes: &mut Planes<u8>, pass: &Pass, row: u32) -> Result<(), Refusal> {
@@ -97,7 +97,7 @@ pub fn columns_16(
     pass!(deblock_columns_16, planes, pass, row, depth)
 }
 
-/// Filters the row edges of superblock row `row` at any depth, once the columns of it and of all rows above are done.
+/// Filters the row edges of superblock row `row` at any depth, once the columns of it and of the row above are done.
 ///
 /// Refused as [`columns_8`].
 pub fn rows_16(

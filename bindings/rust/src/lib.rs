@@ -12,8 +12,10 @@
 //!
 //! [`list`] lists the edges of a script's blocks.
 //!
-//! The rows of a superblock row wait for its columns and those of all rows above; beyond that every order gives the
-//! same samples. Planes are lent to one call at a time: workers that share a frame take turns.
+//! The rows of a superblock row wait for its columns and those of the row above; beyond that every order gives the
+//! same samples. That is proved of calls one after another. Planes, masks and levels are lent to one call at a time:
+//! with this crate, workers that share a frame take turns. Which calls of the archive may be in progress at the same
+//! moment is a table of the repository's docs/USING.md, held by runs and not proved.
 //!
 //! ```
 //! use deblock::*;
