@@ -4,9 +4,11 @@
 // that hold, the lowest, each given exactly when docs/01-scope.md says ("Numbers returned"). If it is not DEBLOCK_OK, nothing
 // is stored. What it answers and stores is its contract in crate `deblock`, proved (docs/CONTRACTS.md). C leaves to
 // the caller: a pointer is aligned, is not null, even of length 0, and has as many elements behind it as its length,
-// or the number in brackets; and what is lent to a call and not const overlaps nothing else that is lent to it. Calls on
-// several threads may be lent the same arrays: docs/USING.md has the elements that each may load and store, and so which calls
-// may be in progress together. That is held by runs, not proved: the proofs are about calls one after another.
+// or the number in brackets; and what is lent to a call and not const overlaps nothing else that is lent to it.
+//
+// Calls on several threads may be lent the same arrays. docs/USING.md has the elements that each call may load and
+// store, and so which calls may be in progress together. That is held by runs, not proved: the proofs are about calls
+// one after another.
 #ifndef DEBLOCK_H
 #define DEBLOCK_H
 
@@ -89,8 +91,8 @@ uint32_t deblock_correct_row(uint16_t *masks, size_t masks_len, uint32_t width, 
 
 // One pass of superblock row `row`, over luma and, unless the layout is 400 or both chroma base levels (level_u,
 // level_v) are 0, over U and V. rows of a superblock row come after columns of it and of the row above; docs/PROOFS.md,
-// "Two workers share a frame", says which calls may change places, made one after another. depth is 8, 10 or 12. Answers 2,
-// 3 (_16 alone), 4, 7, 8, 9, 10, 11, 12, or 0: the planes are filtered.
+// "Two workers share a frame", says which calls, made one after another, may change places. depth is 8, 10 or 12.
+// Answers 2, 3 (_16 alone), 4, 7, 8, 9, 10, 11, 12, or 0: the planes are filtered.
 uint32_t deblock_columns_8(uint8_t *luma, size_t luma_len, size_t luma_stride, uint8_t *u, size_t u_len, uint8_t *v,
                            size_t v_len, size_t chroma_stride, const uint8_t *levels, size_t levels_len,
                            size_t stride, const uint16_t *masks, size_t masks_len, const uint8_t e[64],
