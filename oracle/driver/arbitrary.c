@@ -12,9 +12,6 @@
 #include "calls.h"
 #include "rooms.h"
 
-void (*signal(int, void (*)(int)))(int);
-unsigned alarm(unsigned);
-
 static struct asked asked;
 static u64 made, answers[CALL_COUNT][FORM + 1], wrong[CALL_COUNT];
 
@@ -86,9 +83,7 @@ static int print_table(void) {
 int main(int count, char **words) {
     if (count != 3) return 2;
     u64 calls = strtoul(words[1], 0, 10), seed = strtoul(words[2], 0, 10), all_wrong = 0;
-    enum { ILLEGAL = 4, ABORT = 6, BUS = 7, DIVIDE = 8, SEGMENT = 11, ALARM = 14 };
-    static const int SIGNALS[] = {ILLEGAL, ABORT, BUS, DIVIDE, SEGMENT, ALARM};
-    for (int n = 0; n < 6; n++) signal(SIGNALS[n], stopped);
+    on_signals(stopped);
     make_rooms(&asked, 0);
     for (; made < calls; made++) {
         if (made % 1000 == 0) alarm(60);

@@ -76,6 +76,12 @@ static void describe(const struct asked *a, const char *what, int n, size_t byte
     print_arguments(a);
 }
 
+static void stopped(int signal) {
+    printf("call %lu, %s: ended by signal %d;", made, asked.call->name, signal);
+    print_arguments(&asked);
+    exit(1);
+}
+
 static int is_zero(const u8 *at, size_t count) {
     for (; count % 8; count--)
         if (at[count - 1]) return 0;
@@ -208,13 +214,14 @@ int main(int count, char **words) {
     if (count != 4) return 2;
     u64 calls = strtoul(words[1], 0, 10), seed = strtoul(words[2], 0, 10), all_wrong = 0;
     int file = open(words[3], OPEN_READ_WRITE | CREATE, 0600), is_full = 1;
+    on_signals(stopped);
     make_rooms(&asked, 0);
     make_table(&table);
     if (file < 0 || ftruncate(file, ARENA)) return 2;
     map = mmap(0, ARENA, READ_WRITE, SHARED, file, 0);
     if (!is_watched()) return dprintf(2, "footprints: the emulator's plugin does not answer\n"), 2;
     for (; made < calls; made++) {
-        if (made % 1000 == 0) dprintf(2, "\rfootprints: %lu calls", made);
+        if (made % 1000 == 0) alarm(600), dprintf(2, "\rfootprints: %lu calls", made);
         make_call(&asked, seed);
     }
     dprintf(2, "\rfootprints: %lu calls\n", made);

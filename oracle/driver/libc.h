@@ -9,3 +9,5 @@ void *memset(void *, int, size_t);
 int memcmp(const void *, const void *, size_t);
 void *mmap(void *, size_t, int, int, int, long);
 int mprotect(void *, size_t, int);
+void (*signal(int, void (*)(int)))(int);
+unsigned alarm(unsigned);

@@ -48,3 +48,10 @@ static int is_beside(const struct lent *l, u8 *room) {
     struct zones z = zones(l, room);
     return memcmp(z.below, pattern, z.below_size) || memcmp(z.above, pattern, z.above_size);
 }
+
+// What to do where a call reaches such a page, or does not end.
+static void on_signals(void (*stopped)(int)) {
+    enum { ILLEGAL = 4, ABORT = 6, BUS = 7, DIVIDE = 8, SEGMENT = 11, ALARM = 14 };
+    static const int SIGNALS[] = {ILLEGAL, ABORT, BUS, DIVIDE, SEGMENT, ALARM};
+    for (int n = 0; n < 6; n++) signal(SIGNALS[n], stopped);
+}

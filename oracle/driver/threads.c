@@ -105,13 +105,13 @@ enum { TILE_CASES = 4, FIRST = INTRA, LAST = ROWS_16, MOST_CASES = 64 };
 
 static struct test {
     const char *words;
-    int is_inter, is_down, call[2];
+    int is_down, call[2];
     u64 rounds, together, differ;
 } tests[MOST_CASES] = {
-    {"two tiles side by side, intra", 0, 0, {INTRA, INTRA}, 0, 0, 0},
-    {"two tiles side by side, inter", 1, 0, {INTER, INTER}, 0, 0, 0},
-    {"two tiles one above the other, intra", 0, 1, {INTRA, INTRA}, 0, 0, 0},
-    {"two tiles one above the other, inter", 1, 1, {INTER, INTER}, 0, 0, 0},
+    {"two tiles side by side, intra", 0, {INTRA, INTRA}, 0, 0, 0},
+    {"two tiles side by side, inter", 0, {INTER, INTER}, 0, 0, 0},
+    {"two tiles one above the other, intra", 1, {INTRA, INTRA}, 0, 0, 0},
+    {"two tiles one above the other, inter", 1, {INTER, INTER}, 0, 0, 0},
 };
 static int test_count = TILE_CASES;
 
@@ -119,7 +119,7 @@ static void list_pairs(void) {
     for (int a = FIRST; a <= LAST; a++)
         for (int b = a; b <= LAST; b++)
             if (CALLS[a].kind != FILTER || CALLS[b].kind != FILTER || CALLS[a].is_wide == CALLS[b].is_wide)
-                tests[test_count++] = (struct test){0, 0, 0, {a, b}, 0, 0, 0};
+                tests[test_count++] = (struct test){0, 0, {a, b}, 0, 0, 0};
 }
 
 // Memory of a frame for the first call of worker 0, shared by all.
@@ -178,7 +178,7 @@ static void take_tiles(const struct test *t) {
             a->x = 16 * (t->is_down ? n : w);
             a->y = 16 * (t->is_down ? w : n);
             a->block = 12;
-            a->tx = t->is_inter && once_in(4) ? 4 : 0;
+            a->tx = a->call->is_inter && once_in(4) ? 4 : 0;
             fill(&a->tx_masks, ~0ul, 0);
             a->chroma = 1;
             a->uvtx = 0;
@@ -365,6 +365,15 @@ static void describe(const struct test *t, const struct array *r, const char *wh
     for (int w = 0; w < 2; w++) print_arguments(&work[w].call[0]);
 }
 
+static struct test *now;
+
+static void stopped(int signal) {
+    printf("case %lu, ", now->rounds);
+    print_case(now);
+    printf(": ended by signal %d\n", signal);
+    exit(1);
+}
+
 // In turn, in turn the other way round, then so many rounds at the same moment.
 static void try(struct test *t, u64 rounds) {
     lend_to_calls();
@@ -402,7 +411,10 @@ int main(int count, char **words) {
     list_pairs();
     if (pthread_create(&thread, 0, serve, 0)) return 2;
     stay(0);
+    on_signals(stopped);
     for (struct test *t = tests; t < tests + test_count; t++) {
+        now = t;
+        alarm(600);
         dprintf(2, "\rthreads: case %lu of %d", t - tests + 1, test_count);
         state = seed + (t - tests);
         while (t->rounds < rounds) {
