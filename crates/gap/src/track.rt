@@ -1,6 +1,5 @@
 // The walk along the units of a line, for 32 lines at once.
 ghost use mathlib.Core.Path.{_≡_};
-ghost use mathlib.Core.Bool.{true, false};
 ghost use Prim.Native.Nat.{_+_, _*_, _<_, _≤_};
 ghost use lib.ListN.{length};
 ghost use Rattle.gap.specs.Track.{wordAt, stepOf, startOf, classWord, clashW, startT, stepT, unitT, unitAtT, runT, partT, closeT};
@@ -124,37 +123,18 @@ fn chunk(
     masks: &[u16],
     luma: bool,
     halves: usize,
+    inside: bool,
     at: usize,
     from: usize,
     m: usize,
     s: Track,
 ) -> Track
     requires { ⌜ at + stepOf luma * (from + m) ≤ length (now masks) ⌝ }
-    ensures { λ r. ⌜ r ≡ runT (now (masks .entry)) luma halves true at from m s ⌝ }
+    ensures { λ r. ⌜ r ≡ runT (now (masks .entry)) luma halves inside at from m s ⌝ }
 {
     let mut t = s;
     for i in 0..m {
-        t = unit_at(masks, luma, halves, true, at, from + i, t);
-    }
-    t
-}
-
-// Units past the frame, in a loop of their own: a test more in one loop of all would stay in it.
-fn past(
-    masks: &[u16],
-    luma: bool,
-    halves: usize,
-    at: usize,
-    from: usize,
-    m: usize,
-    s: Track,
-) -> Track
-    requires { ⌜ at + stepOf luma * (from + m) ≤ length (now masks) ⌝ }
-    ensures { λ r. ⌜ r ≡ runT (now (masks .entry)) luma halves false at from m s ⌝ }
-{
-    let mut t = s;
-    for i in 0..m {
-        t = unit_at(masks, luma, halves, false, at, from + i, t);
+        t = unit_at(masks, luma, halves, inside, at, from + i, t);
     }
     t
 }
@@ -172,8 +152,8 @@ pub fn part(
     requires { ⌜ (at + stepOf luma * (from + end) ≤ length (now masks)) × (n ≤ end) ⌝ }
     ensures { λ r. ⌜ r ≡ partT (now (masks .entry)) luma halves at from n end s ⌝ }
 {
-    let t = chunk(masks, luma, halves, at, from, n, s);
-    past(masks, luma, halves, at, from + n, end - n, t)
+    let t = chunk(masks, luma, halves, true, at, from, n, s);
+    chunk(masks, luma, halves, false, at, from + n, end - n, t)
 }
 
 pub fn close(s: Track) -> u32

@@ -1,5 +1,4 @@
 -- `chunk` meets its contract: the units passed have been taken on, one by one.
-use mathlib.Core.Bool.{true}
 use mathlib.Core.Path.{_≡_, refl}
 use Prim.Native.Nat.{_+_, _-_, _≤_}
 use native.Mathlib.Omega.{arith}
@@ -11,10 +10,10 @@ use Rattle.gap.proofs.track.chunk.Statement.{statement}
 use Rattle.gap.proofs.track.chunk.Tie as tie
 
 abbrev Inv-loop : tie.InvT-loop
-Inv-loop masks luma halves at from m t₀ i₀ t i = (i ≤ m) × (t ≡ runT masks luma halves true at from i t₀)
+Inv-loop masks luma halves inside at from m t₀ i₀ t i = (i ≤ m) × (t ≡ runT masks luma halves inside at from i t₀)
 
 abbrev μ-loop : tie.MeasureT-loop
-μ-loop masks luma halves at from m t₀ i₀ t i = m - i
+μ-loop masks luma halves inside at from m t₀ i₀ t i = m - i
 
 loop-holds : tie.Need-loop-holds Inv-loop μ-loop
 unfolding runT

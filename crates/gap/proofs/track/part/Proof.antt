@@ -12,14 +12,14 @@ use Rattle.gap.proofs.track.part.Tie as tie
 chunk-requires : tie.Need-chunk-requires
 chunk-requires c κs = let a = c .before .args in fewer-units (a .luma) (a .at) (a .from + a .n) (a .from + a .end) _ (omega arith) (c .before .pre .0)
 
-add-past : tie.Need-add-past
-add-past c = let a = c .before .before .args in omega (arith, few-units (a .luma) (a .from + a .end), c .before .before .pre)
+add-chunk : tie.Need-add-chunk
+add-chunk c = let a = c .before .before .args in omega (arith, few-units (a .luma) (a .from + a .end), c .before .before .pre)
 
-sub-past : tie.Need-sub-past
-sub-past c = search needs
+sub-chunk : tie.Need-sub-chunk
+sub-chunk c = search needs
 
-past-requires : tie.Need-past-requires
-past-requires c κs =
+chunk-requires-2 : tie.Need-chunk-requires-2
+chunk-requires-2 c κs =
     let a = c .before .before .args in
     fewer-units (a .luma) (a .at) (a .from + a .n + (a .end - a .n)) (a .from + a .end) _ (omega arith) (c .before .before .pre .0)
 
@@ -27,8 +27,8 @@ returns : tie.Need-returns
 unfolding partT
 returns c =
     let a = c .before .before .before .args in
-    c .past .ensures
+    c .chunk2 .ensures
     ∙ ap (runT (a .masks .now) (a .luma) (a .halves) false (a .at) (a .from + a .n) (a .end - a .n)) (c .before .chunk .ensures)
 
 pub part-spec : {M : Type 1} → statement M
-part-spec = tie.close (tie.spec chunk-requires add-past sub-past past-requires returns)
+part-spec = tie.close (tie.spec chunk-requires add-chunk sub-chunk chunk-requires-2 returns)
