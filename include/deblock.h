@@ -81,7 +81,7 @@ uint32_t deblock_record_inter(uint8_t *levels, size_t levels_len, size_t stride,
 // its context's, which is what the tile before left. _column is for the tile whose first superblock is `start`, and
 // left begins at the row's first unit; _row for a tile row that starts here, along the whole width. Answers 4, 6, 7,
 // 10, or 0: corrected, and every other bit is as before. At start 0 _column stores nothing, at row 0 _row. A forgotten
-// _column is DEBLOCK_GAP in most frames; a forgotten _row is noticed by no call.
+// _column can be DEBLOCK_GAP; a forgotten _row is noticed by no call.
 uint32_t deblock_correct_column(uint16_t *masks, size_t masks_len, uint32_t width, uint32_t height, uint32_t layout,
                                 uint32_t superblock, uint32_t row, uint32_t start, const uint8_t *left,
                                 size_t left_len, const uint8_t *left_uv, size_t left_uv_len);

@@ -428,7 +428,7 @@ int main(int count, char **words) {
         printf("%lu rounds, %lu at the same moment, %lu differ: ", t->rounds, t->together, t->differ);
         print_case(t);
         printf("\n");
-        is_full &= t->together > t->rounds / 4;
+        is_full &= t->together > t->rounds / 2;
         all += t->rounds;
         differ += t->differ;
     }
