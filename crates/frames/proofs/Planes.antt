@@ -9,15 +9,16 @@ use Prim.Native.Nat.{ℕ, suc, _*_, _/_, _<_}
 use native.Mathlib.Nat.{div-lt-iff-lt-mul, mul-le-mul-right}
 use native.Mathlib.Omega.{arith}
 use lib.Dec.{eqb}
-use Rattle.loops.specs.Run.{run, pieces, upTo}
-use Rattle.loops.proofs.Runs.{run-parts, upTo-idle}
+use Rattle.loops.specs.Run.{run, upTo}
+use Rattle.loops.proofs.Runs.{upTo-idle}
 use Rattle.loops.proofs.Locals.{commute}
 use Rattle.plane.specs.Line.{Pass, columns, rows, Piece}
 use Rattle.plane.specs.Plane.{Plane, class, IsPiece, act, colsOf, rowsOf, rasterOf, down, Kept, InRow}
 use Rattle.plane.specs.Three.{Three}
-use Rattle.plane.proofs.Pieces.{Fair, inner-some, idle, local, apart, past, ahead}
+use Rattle.plane.proofs.Pieces.{Fair, inner-some, idle, local-of, reads-piece, local, apart, past, ahead}
 use Rattle.units.specs.Frame.{superblocks}
-use Rattle.order.specs.Demand3.{Demand3}
+use Rattle.order.specs.Demand3.{Order, Demand3}
+use Rattle.order.proofs.Parts.{divided, cut}
 use Rattle.order.proofs.Frames.{demand3, row-of}
 use Rattle.filter.specs.declared.Component.{Component}
 use Rattle.filter.specs.Filter.{Tables, planeOf}
@@ -102,7 +103,10 @@ module _ (P : Plane) (no-edge : (d : Pass) (p : Piece) → class P d p ≡ none)
       record {
         an-order = λ d. ([], record { only = tt; every = λ p _ e. absurd (no-piece d p e); once = tt });
         any-order = λ d l m _ _ s. run-stays d l s ∙ sym (run-stays d m s);
-        any-parts = λ d q m _ _ s. run-parts (act P d) q s ∙ run-stays d (pieces q) s ∙ sym (run-stays d m s);
+        any-parts = λ d.
+            divided P d (λ p. local-of P d p (λ c e. absurd (no-piece d p (record { cls = c; is = e }))))
+            (λ p q n i r _. let x = reads-piece P d p i r in no-piece d p (record { cls = x .0; is = x .1 }));
+        two-parts = λ d m n M. subst (Order P d) (cut m n) M;
         one-row-columns = λ k l _ s. cols-stay k s ∙ sym (run-stays columns l s);
         one-row-rows = λ k l _ s. rows-stay k s ∙ sym (run-stays rows l s);
         rows-in-turn = λ l m _ _ s. turns-stay s ∙ sym (run-stays rows m (run (act P columns) l s) ∙ run-stays columns l s);

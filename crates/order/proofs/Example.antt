@@ -1,18 +1,24 @@
 -- A plane that keeps the rule, so that the promises are not empty: 128 by 64 samples, one edge of class 1 at column 4 in each of 16 lines of
--- units, none in the row pass; its marks are 4 units apart or more.
-use Prim.Native.Nat.{ℕ, _-_, _*_, _≤_, _<_}
+-- units, none in the row pass; its marks are 4 units apart or more. Its edge pieces are shared by two workers.
+use Prim.Native.Nat.{ℕ, _+_, _-_, _*_, _≤_, _<_}
 use native.Mathlib.Omega.{arith}
 use mathlib.Core.Path.{_≡_, refl}
 use mathlib.Core.Logic.{_⊎_, inl, inr, ⊎-elim}
 use mathlib.Core.Bool.{Bool, true, false}
 use mathlib.Core.Option.{Option, some, none}
+use mathlib.Core.List.{List, [], _∷_, List·Memᴰ·head}
 use lib.Dec.{T, eqb, eqb→eq, ltb, ltb→lt}
-use lib.ListN.{length-replicate, replicate}
+use lib.ListN.{length-replicate, replicate, take, drop}
+use Rattle.loops.specs.Run.{cat}
+use Rattle.loops.proofs.Closed.{all-of}
+use Rattle.loops.proofs.Loops.{mem-cat, distinct-cat}
 use Rattle.plane.specs.Line.{Pass, columns, rows, Piece}
 use Rattle.plane.specs.Gap.{Mark, an-edge, the-start, the-end, a-boundary, Allowed, GapRule}
 use Rattle.plane.proofs.Gaps.{close-gap}
-use Rattle.plane.specs.Plane.{Plane, luma, Kept, Boundary, end}
-use Rattle.order.specs.Demand3.{Demand3}
+use Rattle.plane.specs.Plane.{Plane, luma, Kept, Boundary, end, Anywhere}
+use Rattle.plane.proofs.Pieces.{inner-some}
+use Rattle.order.specs.Parts.{flat, part, here, there, Interleaving, done, next, MayWrite}
+use Rattle.order.specs.Demand3.{Order, Demand3}
 use Rattle.order.proofs.Theorems.{promises}
 
 abbrev when : Bool → Bool → Option ℕ
@@ -87,3 +93,49 @@ kept =
 
 pub one-plane : Demand3 plane
 one-plane = promises .order-luma plane refl kept
+
+-- ---- two workers: the upper eight edge pieces and the lower eight, both of which write, and an interleaving in which they take turns
+
+abbrev line : ℕ → List Piece
+line v = (4, v) ∷ []
+
+abbrev lines : List Piece
+lines = cat line 16
+
+order : Order plane columns lines
+order =
+    record {
+      only = all-of Anywhere lines (λ p m. tt);
+      every = λ p _ e.
+          let h = edge-at p (e .cls) (inner-some (p .0) _ _ (e .is) .1) in
+          mem-cat line (p .1) 16 (h .1) (List·Memᴰ·head (λ j. (h .0 j, p .1)));
+      once = distinct-cat line (λ p. p .1) 16 (λ v _. (refl, tt)) (λ v. (tt, tt));
+    }
+
+abbrev pub halves : List (List Piece)
+halves = take 8 lines ∷ drop 8 lines ∷ []
+
+pub division : Order plane columns (flat halves)
+division = one-plane .two-parts columns lines 8 order
+
+pub upper-writes : MayWrite plane columns (part halves 0) 16
+upper-writes =
+    record {
+      piece = (4, 0);
+      its = List·Memᴰ·head refl;
+      writes = record { cls = 1; is = refl; near = record { from = omega arith; below = omega arith; left = omega arith; right = omega arith } };
+    }
+
+pub lower-writes : MayWrite plane columns (part halves 1) (32 * 128 + 16)
+lower-writes =
+    record {
+      piece = (4, 8);
+      its = List·Memᴰ·head refl;
+      writes = record { cls = 1; is = refl; near = record { from = omega arith; below = omega arith; left = omega arith; right = omega arith } };
+    }
+
+abbrev both : {x y : Piece} {q r l : List Piece} → Interleaving (q ∷ r ∷ []) l → Interleaving ((x ∷ q) ∷ (y ∷ r) ∷ []) (x ∷ y ∷ l)
+both i = next here (next (there here) i)
+
+pub turns : Interleaving halves (cat (λ v. (4, v) ∷ (4, 8 + v) ∷ []) 8)
+turns = both (both (both (both (both (both (both (both (done refl))))))))

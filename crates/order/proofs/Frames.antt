@@ -2,13 +2,13 @@
 use Prim.Native.Nat.{ℕ, zero, suc, _+_, _-_, _*_, _/_, _%_, _≤_, _<_}
 use native.Mathlib.Omega.{arith}
 use native.Mathlib.Nat.{div-add-mod', mod-lt, div-lt-iff-lt-mul}
-use mathlib.Core.Path.{_≡_, refl, sym, ap, _∙_}
+use mathlib.Core.Path.{_≡_, refl, sym, ap, _∙_, subst}
 use mathlib.Core.Option.{Option, some, none}
 use mathlib.Core.List.{List, [], _∷_, List·Memᴰ, List·Memᴰ·head}
 use lib.ListN.{length, getD}
 use lib.Arith.{digits-div}
-use Rattle.loops.specs.Run.{run, All, Distinct, Once, pieces, upTo, cat}
-use Rattle.loops.proofs.Runs.{run-parts, run-past, rows-in-turn}
+use Rattle.loops.specs.Run.{run, All, Distinct, Once, upTo, cat}
+use Rattle.loops.proofs.Runs.{run-past, rows-in-turn}
 use Rattle.loops.proofs.Closed.{run-once, run-sees, run-keeps, all-at, all-of}
 use Rattle.loops.proofs.Loops.{loop-run, mem-cat, all-cat, distinct-cat}
 use Rattle.plane.specs.Line.{Pass, columns, rows, Piece, lineOf, placeOf}
@@ -16,6 +16,7 @@ use Rattle.plane.specs.Plane.{luma, chroma, Plane, class, IsPiece, ruleOf, act,
 use Rattle.plane.proofs.Gaps.{before-end}
 use Rattle.plane.proofs.Pieces.{Fair, inner-some, ruleAt, Writes, Reads, gap, edge-of, local, reads-piece, writes-piece, apart, past}
 use Rattle.order.specs.Demand3.{Order, OrderIn, Demand3, Sees}
+use Rattle.order.proofs.Parts.{divided, cut}
 
 module _ (P : Plane) (k : Kept P) (f : Fair (P .widths)) where
   same : (d : Pass) (Area : Piece → Type 0) (l m : List Piece) → Once Area (IsPiece P d) l → Once Area (IsPiece P d) m → (s : List ℕ)
@@ -181,7 +182,8 @@ module _ (P : Plane) (k : Kept P) (f : Fair (P .widths)) where
       record {
         an-order = λ d. (rasterList P d, raster-order P k d);
         any-order = λ d. same P k f d Anywhere;
-        any-parts = λ d q m Q M s. run-parts (act P d) q s ∙ same P k f d Anywhere (pieces q) m Q M s;
+        any-parts = λ d. divided P d (local P k f d) (apart P k f d);
+        two-parts = λ d m n M. subst (Order P d) (cut m n) M;
         one-row-columns = λ i l L s. cols-run P i s ∙ same P k f columns (InRow P columns i) (colsList P i) l (cols-once P k i) L s;
         one-row-rows = λ i l L s. rows-run P i s ∙ same P k f rows (InRow P rows i) (rowsList P i) l (rows-once P k i) L s;
         rows-in-turn = calls-in-turn;

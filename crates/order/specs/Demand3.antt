@@ -1,16 +1,18 @@
 -- Demand 3: the order of the edge pieces does not matter.
 --     Order, OrderIn                  a list that has each edge piece of a pass once, over the frame or in one superblock row
+--     Divided                         what holds of a division into parts, each the work of one of several workers
 --     Demand3                         of one plane
 --     Near, Sees                      how far a sample sees
 --     allOf, Orders, Frame3           of the three planes of a frame together
 use Prim.Native.Nat.{ℕ, _+_, _*_, _/_, _%_, _≤_, _<_}
 use mathlib.Core.Path.{_≡_}
-use mathlib.Core.List.{List}
-use lib.ListN.{length, getD}
-use Rattle.loops.specs.Run.{run, Once, Parts, pieces, runParts, upTo}
+use mathlib.Core.List.{List, [], _∷_}
+use lib.ListN.{length, getD, take, drop}
+use Rattle.loops.specs.Run.{run, Once, upTo}
 use Rattle.plane.specs.Line.{Pass, columns, rows, Piece}
 use Rattle.plane.specs.Plane.{Plane, act, IsPiece, Anywhere, InRow, colsOf, rowsOf, rasterOf}
 use Rattle.plane.specs.Three.{Three, colsCall, rowsCall}
+use Rattle.order.specs.Parts.{flat, part, Interleaving, MayWrite, Merged}
 
 abbrev pub Order : Plane → Pass → List Piece → Type 0
 Order P d l = Once Anywhere (IsPiece P d) l
@@ -18,14 +20,25 @@ Order P d l = Once Anywhere (IsPiece P d) l
 abbrev pub OrderIn : Plane → Pass → ℕ → List Piece → Type 0
 OrderIn P d k l = Once (InRow P d k) (IsPiece P d) l
 
+-- of the parts qs, beside the order m
+pub record Divided (P : Plane) (d : Pass) (qs : List (List Piece)) (m : List Piece) : Type 0 where
+  -- no two parts may write one sample
+  pub one-part : (a b i : ℕ) → MayWrite P d (part qs a) i → MayWrite P d (part qs b) i → a ≡ b
+  -- each part run on the samples as they were, and each sample taken from the part that may write it: the same samples, and no others
+  pub merged : (s : List ℕ) → Merged P d qs s (run (act P d) m s)
+  pub only : (s t : List ℕ) → Merged P d qs s t → t ≡ run (act P d) m s
+  -- any interleaving of the parts: the same samples
+  pub interleaved : (l : List Piece) → Interleaving qs l → (s : List ℕ) → run (act P d) l s ≡ run (act P d) m s
+
 pub record Demand3 (P : Plane) : Type 0 where
   -- there is an order
   pub an-order : (d : Pass) → (l : List Piece) × Order P d l
   -- in one pass, the edge pieces, each taken once, give the same samples in any order
   pub any-order : (d : Pass) (l m : List Piece) → Order P d l → Order P d m → (s : List ℕ) → run (act P d) l s ≡ run (act P d) m s
   -- and under any division into parts
-  pub any-parts : (d : Pass) (q : Parts Piece) (m : List Piece) → Order P d (pieces q) → Order P d m → (s : List ℕ)
-      → runParts (act P d) q s ≡ run (act P d) m s
+  pub any-parts : (d : Pass) (qs : List (List Piece)) (m : List Piece) → Order P d (flat qs) → Order P d m → Divided P d qs m
+  -- of which there are some: an order cut in two anywhere
+  pub two-parts : (d : Pass) (m : List Piece) (n : ℕ) → Order P d m → Order P d (flat (take n m ∷ drop n m ∷ []))
   -- the calls for one superblock row give what any order of its edge pieces gives
   pub one-row-columns : (k : ℕ) (l : List Piece) → OrderIn P columns k l → (s : List ℕ) → colsOf P k s ≡ run (act P columns) l s
   pub one-row-rows : (k : ℕ) (l : List Piece) → OrderIn P rows k l → (s : List ℕ) → rowsOf P k s ≡ run (act P rows) l s

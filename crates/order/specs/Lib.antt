@@ -1,2 +1,3 @@
+pub mod Parts
 pub mod Demand3
 pub mod Promises
