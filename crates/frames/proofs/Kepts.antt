@@ -61,7 +61,7 @@ row-in-frame k u h4 =
 pub in-groups : (x w4 ss : ℕ) → ss ≤ 1 → x < chromaUnits ss w4 → x < records w4 * (32 / 2 ^ ss)
 in-groups x w4 ss h = each-at 2 (λ s. x < chromaUnits s w4 → x < records w4 * (32 / 2 ^ s)) (λ h. omega arith, (λ h. omega arith, tt)) ss (omega arith)
 
-in-superblocks : (y h4 sb4 ss : ℕ) → Size sb4 → ss ≤ 1 → y < chromaUnits ss h4 → y < superblocks h4 sb4 * chromaUnit ss sb4
+pub in-superblocks : (y h4 sb4 ss : ℕ) → Size sb4 → ss ≤ 1 → y < chromaUnits ss h4 → y < superblocks h4 sb4 * chromaUnit ss sb4
 in-superblocks y h4 =
     by-size (λ sb4 ss. y < chromaUnits ss h4 → y < superblocks h4 sb4 * chromaUnit ss sb4) (λ h. omega arith) (λ h. omega arith) (λ h. omega arith) (λ h. omega arith)
 

@@ -25,8 +25,7 @@ use Rattle.checks.specs.Tests.{number}
 use Rattle.apply.specs.Apply.{componentOf, Limits, tablesOf, planeAt}
 use Rattle.apply.proofs.Readies.{ready}
 use Rattle.frames.proofs.Regions.{far}
-use Rattle.joined.specs.Piece.{There}
-use Rattle.joined.specs.Promises.{levelAt, lenAt}
+use Rattle.joined.specs.Piece.{levelAt, lenAt, There}
 
 -- a sample of one of n lines
 in-lines : (S n len t y : ℕ) → n * S ≤ len → t < n → y < S → t * S + y < len
@@ -81,14 +80,12 @@ module _ (c : Component) (t : Tables) (len : ℕ) (s : Stored c t len) (k : ℕ)
       go true = byte-le d f r e (p .0 - 1) (omega arith) (omega arith)
       go false = byte-le d f r e (p .0) (omega arith) (omega arith)
 
+  pub asked-row : (d : Pass) → Fit c t d k → InRow P d k p → class P d p ≡ some cls → (levelOf c t d p ≤ 63) × There d (c .stride) (reads (lenAt (c .plane) cls)) p len
+  asked-row d f r e =
+      (level-le d f r e, subst (λ (x : ℕ). There d (c .stride) x p len) (reads-is (eqb (c .plane) 0) cls) (there d f r e))
+
 pub asked : (c : Call) (l : Limits) (m : Lent) (n : ℕ) → number c m ≡ 0 → Filtered c n → (p : Piece) (cls : ℕ)
     → InRow (planeAt c l m n) (passOf c) (c .row) p → class (planeAt c l m n) (passOf c) p ≡ some cls
     → (levelAt c l m n (passOf c) p ≤ 63) × There (passOf c) (strideOf c n) (reads (lenAt n cls)) p (length (samples m n))
 asked c l m n e f p cls r is =
-    let g = ready c l m e f in
-    let C = componentOf c n in
-    let t = tablesOf c l m in (
-      level-le C t (length (samples m n)) (g .stored) (c .row) p cls (passOf c) (g .fit) r is,
-      subst (λ (x : ℕ). There (passOf c) (strideOf c n) x p (length (samples m n))) (reads-is (eqb n 0) cls)
-          (there C t (length (samples m n)) (g .stored) (c .row) p cls (passOf c) (g .fit) r is),
-    )
+    let g = ready c l m e f in asked-row (componentOf c n) (tablesOf c l m) (length (samples m n)) (g .stored) (c .row) p cls (passOf c) (g .fit) r is

@@ -57,7 +57,7 @@ ix-place d S t x k h = go (ltb k 8) refl
     go true e = let l = ltb-true k 8 e in ix-back d S t x (8 - k) (omega arith) ∙ ap (ix d S t) (omega arith)
     go false e = let l = ltb-false k 8 e in ix-on d S t x (k - 8) ∙ ap (ix d S t) (omega arith)
 
-dec-within : (n k : ℕ) → Dec (Within n k)
+pub dec-within : (n k : ℕ) → Dec (Within n k)
 dec-within n k =
     by-cases (decLe 8 (k + n))
     (λ a. by-cases (decLt k (8 + n)) (λ b. yes (record { from = a; to = b })) (λ b. no (λ w. b (w .to))))

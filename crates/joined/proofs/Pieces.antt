@@ -24,8 +24,7 @@ use Rattle.filter.proofs.Acts.{act-visit}
 use Rattle.checks.specs.declared.Call.{Call}
 use Rattle.checks.specs.Call.{Lent, strideOf}
 use Rattle.apply.specs.Apply.{componentOf, Limits, limits, tablesOf, planeAt}
-use Rattle.joined.specs.Piece.{There, Standard}
-use Rattle.joined.specs.Promises.{limitsIn, levelAt, lenAt}
+use Rattle.joined.specs.Piece.{limitsIn, levelAt, lenAt, There, Standard}
 use Rattle.joined.proofs.Lines.{piece-standard}
 
 -- the limit table of an accepted answer

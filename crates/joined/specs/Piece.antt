@@ -1,16 +1,36 @@
 -- One edge piece as the standard filters it. Places of a line as in the standard's Masks: q0 at 8, p0 at 7.
+--   limitsIn a              e and i of an answer of `limits`
+--   levelAt                 the level used at a piece of plane n
+--   lenAt n cls             the width of a class in plane n
 --   at d S p i k            the index of place k of line i of the piece at p
 --   lineIn d S p i s        line i of it, in the list s
 --   There d S n p size      n places a side of its four lines are in a list of that size
 --   Standard                each of its four lines is filtered by 7.14.6.1, and no other sample changes
+use mathlib.Core.Bool.{not}
 use mathlib.Core.List.{List}
 use mathlib.Core.Path.{_≡_}
 use Prim.Native.Nat.{ℕ, _+_, _-_, _*_, _≤_, _<_}
+use lib.Dec.{eqb}
 use lib.ListN.{length, getD}
 use Rattle.plane.specs.Line.{Pass, Piece, ix, Room}
 use Rattle.standard.specs.Line.{filtered}
 use Rattle.standard.specs.declared.Bounds.{Bounds}
 use Rattle.line.specs.Width.{Within, reads}
+use Rattle.limits.specs.declared.LimitAnswer.{LimitAnswer}
+use Rattle.walk.specs.Walk.{lenOf}
+use Rattle.filter.specs.Filter.{levelOf}
+use Rattle.checks.specs.declared.Call.{Call}
+use Rattle.checks.specs.Call.{Lent}
+use Rattle.apply.specs.Apply.{componentOf, Limits, tablesOf}
+
+abbrev pub limitsIn : LimitAnswer → Limits
+limitsIn a = record { e = a .table .e; i = a .table .i }
+
+abbrev pub levelAt : Call → Limits → Lent → ℕ → Pass → Piece → ℕ
+levelAt c l m n = levelOf (componentOf c n) (tablesOf c l m)
+
+abbrev pub lenAt : ℕ → ℕ → ℕ
+lenAt n = lenOf (not (eqb n 0))
 
 abbrev pub at : Pass → ℕ → Piece → ℕ → ℕ → ℕ
 at d S p i k = ix d S (4 * p .1 + i) (4 * p .0 + k - 8)

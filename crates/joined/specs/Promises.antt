@@ -1,44 +1,31 @@
 -- What holds of the calls joined.
---   limitsIn a       e and i of an answer of `limits`
---   levelAt          the level used at a piece of plane n
---   lenAt n cls      the width of a class in plane n
 --   Promises         the promises, one a field
-use mathlib.Core.Bool.{not}
 use mathlib.Core.List.{List}
 use mathlib.Core.Option.{some}
 use mathlib.Core.Path.{_≡_}
 use Prim.Native.Nat.{ℕ, _≤_}
-use lib.Dec.{eqb}
 use lib.ListN.{length, getD}
 use Rattle.plane.specs.Line.{Pass, Piece}
 use Rattle.plane.specs.Plane.{class, act, InRow}
+use Rattle.plane.specs.Three.{Three}
 use Rattle.standard.specs.Strength.{bounds}
 use Rattle.line.specs.Width.{reads}
 use Rattle.limits.specs.declared.LimitAnswer.{LimitAnswer}
 use Rattle.limits.specs.Limits.{limitsOf}
-use Rattle.walk.specs.Walk.{lenOf}
-use Rattle.filter.specs.Filter.{levelOf}
 use Rattle.checks.specs.declared.Call.{Call}
 use Rattle.checks.specs.Call.{Lent, samples, passOf, strideOf, Filtered}
 use Rattle.checks.specs.Tests.{number}
-use Rattle.apply.specs.Apply.{componentOf, Limits, tablesOf, planeAt}
+use Rattle.apply.specs.Apply.{Limits, planeAt}
+use Rattle.frames.specs.Calls.{Frame, planes, Accepted}
 use Rattle.units.specs.Memory as memory
 use Rattle.levels.specs.Levels.{LevelsIn, LevelsAnswer}
 use Rattle.block.specs.declared.Block.{Block}
 use Rattle.block.specs.Block as block
 use Rattle.record.specs.Record.{intraOf, interOf, RecordAnswer}
 use Rattle.record.specs.Recorded.{Seen}
-use Rattle.joined.specs.Piece.{There, Standard}
+use Rattle.joined.specs.Piece.{limitsIn, levelAt, lenAt, There, Standard}
+use Rattle.joined.specs.Frame.{Sharp, ByStandard}
 use Rattle.joined.specs.Level.{Segment, Referred, Level}
-
-abbrev pub limitsIn : LimitAnswer → Limits
-limitsIn a = record { e = a .table .e; i = a .table .i }
-
-abbrev pub levelAt : Call → Limits → Lent → ℕ → Pass → Piece → ℕ
-levelAt c l m n = levelOf (componentOf c n) (tablesOf c l m)
-
-abbrev pub lenAt : ℕ → ℕ → ℕ
-lenAt n = lenOf (not (eqb n 0))
 
 pub record Promises : Type 0 where
   -- at level 0 a piece changes nothing
@@ -55,6 +42,10 @@ pub record Promises : Type 0 where
       → (p : Piece) (cls : ℕ) (s : List ℕ) → InRow (planeAt c (limitsIn a) m n) (passOf c) (c .row) p → class (planeAt c (limitsIn a) m n) (passOf c) p ≡ some cls
       → length s ≡ length (samples m n) → ¬ (levelAt c (limitsIn a) m n (passOf c) p ≡ 0)
       → Standard (passOf c) (strideOf c n) (lenAt n cls) (bounds (c .depth) sharp (levelAt c (limitsIn a) m n (passOf c) p)) p s (act (planeAt c (limitsIn a) m n) (passOf c) p s)
+  -- and so are the samples that all calls of a frame leave, plane by plane
+  pub luma : (sharp : ℕ) (f : Frame) → Sharp sharp f → (s : Three (List ℕ)) → Accepted f s → ByStandard sharp f s 0 (planes f .luma) (λ t. t .luma)
+  pub u : (sharp : ℕ) (f : Frame) → Sharp sharp f → (s : Three (List ℕ)) → Accepted f s → ByStandard sharp f s 1 (planes f .u) (λ t. t .u)
+  pub v : (sharp : ℕ) (f : Frame) → Sharp sharp f → (s : Three (List ℕ)) → Accepted f s → ByStandard sharp f s 2 (planes f .v) (λ t. t .v)
   -- every level byte of a visible unit of a block recorded with what `levels` leaves is the standard's
   pub level : (layout : ℕ) (x : LevelsIn) (old all : List ℕ) → LevelsAnswer layout x 0 old all
       → (s : ℕ) (values : List ℕ) → Segment x s all values

@@ -1,8 +1,9 @@
--- `promised` meets its contract: the promises are proved in Pieces, Asked and Levels.
+-- `promised` meets its contract: the promises are proved in Pieces, Asked, Frames and Levels.
 use Rattle.checks.specs.Call.{passOf}
 use Rattle.joined.proofs.Pieces.{limits-are, no-level, piece-is}
-use Rattle.joined.specs.Promises.{limitsIn}
+use Rattle.joined.specs.Piece.{limitsIn}
 use Rattle.joined.proofs.Asked.{asked}
+use Rattle.joined.proofs.Frames.{by-luma, by-u, by-v}
 use Rattle.joined.proofs.Levels.{intra, inter, level-is}
 use Rattle.joined.proofs.promised.Statement.{statement}
 use Rattle.joined.proofs.promised.Tie as tie
@@ -15,6 +16,9 @@ returns c =
       call = λ sharp a e z c m n g f p cls s r is long o.
           let k = asked c (limitsIn a) m n g f p cls r is in
           piece-is c (limitsIn a) m n (passOf c) p s sharp cls (limits-are sharp a e z) is o (k .0) (rw long (k .1));
+      luma = λ sharp f g s a. by-luma f s a sharp g;
+      u = λ sharp f g s a. by-u f s a sharp g;
+      v = λ sharp f g s a. by-v f s a sharp g;
       level = level-is;
       intra = intra;
       inter = inter;
