@@ -43,9 +43,9 @@ pub record Promises : Type 0 where
       → length s ≡ length (samples m n) → ¬ (levelAt c (limitsIn a) m n (passOf c) p ≡ 0)
       → Standard (passOf c) (strideOf c n) (lenAt n cls) (bounds (c .depth) sharp (levelAt c (limitsIn a) m n (passOf c) p)) p s (act (planeAt c (limitsIn a) m n) (passOf c) p s)
   -- and so are the samples that all calls of a frame leave, plane by plane
-  pub luma : (sharp : ℕ) (f : Frame) → Sharp sharp f → (s : Three (List ℕ)) → Accepted f s → ByStandard sharp f s 0 (planes f .luma) (λ t. t .luma)
-  pub u : (sharp : ℕ) (f : Frame) → Sharp sharp f → (s : Three (List ℕ)) → Accepted f s → ByStandard sharp f s 1 (planes f .u) (λ t. t .u)
-  pub v : (sharp : ℕ) (f : Frame) → Sharp sharp f → (s : Three (List ℕ)) → Accepted f s → ByStandard sharp f s 2 (planes f .v) (λ t. t .v)
+  pub luma-frame : (sharp : ℕ) (f : Frame) → Sharp sharp f → (s : Three (List ℕ)) → Accepted f s → ByStandard sharp f s 0 (planes f .luma) (λ t. t .luma)
+  pub u-frame : (sharp : ℕ) (f : Frame) → Sharp sharp f → (s : Three (List ℕ)) → Accepted f s → ByStandard sharp f s 1 (planes f .u) (λ t. t .u)
+  pub v-frame : (sharp : ℕ) (f : Frame) → Sharp sharp f → (s : Three (List ℕ)) → Accepted f s → ByStandard sharp f s 2 (planes f .v) (λ t. t .v)
   -- every level byte of a visible unit of a block recorded with what `levels` leaves is the standard's
   pub level : (layout : ℕ) (x : LevelsIn) (old all : List ℕ) → LevelsAnswer layout x 0 old all
       → (s : ℕ) (values : List ℕ) → Segment x s all values

@@ -16,9 +16,9 @@ returns c =
       call = λ sharp a e z c m n g f p cls s r is long o.
           let k = asked c (limitsIn a) m n g f p cls r is in
           piece-is c (limitsIn a) m n (passOf c) p s sharp cls (limits-are sharp a e z) is o (k .0) (rw long (k .1));
-      luma = λ sharp f g s a. by-luma f s a sharp g;
-      u = λ sharp f g s a. by-u f s a sharp g;
-      v = λ sharp f g s a. by-v f s a sharp g;
+      luma-frame = λ sharp f g s a. by-luma f s a sharp g;
+      u-frame = λ sharp f g s a. by-u f s a sharp g;
+      v-frame = λ sharp f g s a. by-v f s a sharp g;
       level = level-is;
       intra = intra;
       inter = inter;
