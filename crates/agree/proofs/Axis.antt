@@ -51,7 +51,7 @@ sample (suc (suc s)) k h = absurd (omega arith)
 -- ---- a block's side in the plane
 
 -- one unit, or an even number
-even : (n most : ℕ) → Side n most → (n ≡ 1) ⊎ (n % 2 ≡ 0)
+pub even : (n most : ℕ) → Side n most → (n ≡ 1) ⊎ (n % 2 ≡ 0)
 even n most s = go (log2 n) (s .power)
   where
     go : (k : ℕ) → 2 ^ k ≡ n → (n ≡ 1) ⊎ (n % 2 ≡ 0)
@@ -110,7 +110,7 @@ module _ (n : ℕ) (s : Side n 32) where
 -- ---- tests from the frame's corner, and from the block's
 
 -- a power of two divides one that is no less
-powers : (i j : ℕ) → 2 ^ i ≤ 2 ^ j → 2 ^ i ∣ 2 ^ j
+pub powers : (i j : ℕ) → 2 ^ i ≤ 2 ^ j → 2 ^ i ∣ 2 ^ j
 powers zero j h = one-dvd (2 ^ j)
 powers (suc i) zero h = absurd (omega (arith, one-le-pow i 2 (omega arith), pow-suc 2 i))
 powers (suc i) (suc j) h =
