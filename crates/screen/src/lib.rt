@@ -1,0 +1,6 @@
+// What 7.14.2 has on the screen is what is recorded. The function does nothing: its contract puts the theorems where a reader sees them.
+ghost use Rattle.screen.specs.Promises.{Promises};
+
+pub fn promised()
+    ensures { λ _. ⌜ Promises ⌝ }
+{}
