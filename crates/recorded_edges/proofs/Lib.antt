@@ -1,0 +1,5 @@
+pub mod Highest
+pub mod Views
+pub mod Shown
+pub mod Agreed
+pub mod Theorems

@@ -1,0 +1,111 @@
+-- A block of a call that records, beside the standard's frame, in luma or in chroma; and their edges. A unit is (across, along) the pass.
+--   ssIn luma b d              ss of the direction across the pass d
+--   placeIn luma b d           the block's first unit there
+--   gridIn luma b              the plane's units
+--   SeenIn luma b d p          p is one of the visible units
+--   contextIn luma d m         the context lent along the pass
+--   txIn luma b tm x y         the transform of the block at a unit, counted from its corner
+--   Holds                      the frame D has the call's block as C, a legal block, and LoopfilterTxSizes has its transforms
+--   Told                       where the pass meets the block, the context holds the class of the transform before
+--   applies D plane d p        7.14.2's applyFilter where 7.14.1 visits the unit
+--   standardEdge D plane d p   the standard's edge: its filter's length, by 7.14.3, if applyFilter holds
+--   stands o                   there is an edge
+--   widthIn plane o            the width of an edge's class
+--   greater o q                of two edges the wider one
+--   Stays G d p ms ms′         the bits of a unit's edge are the same in both
+use mathlib.Core.Bool.{Bool, true, false, cond, not, _&&_}
+use mathlib.Core.List.{List}
+use mathlib.Core.Option.{Option, some, none}
+use mathlib.Core.Path.{_≡_}
+use Prim.Native.Nat.{ℕ, _-_, _<_, max}
+use lib.Dec.{eqb}
+use lib.ListN.{getD}
+use Rattle.bits.specs.Mark.{isSet}
+use Rattle.plane.specs.Line.{Pass, columns, rows, Piece}
+use Rattle.plane.specs.Plane.{right, down}
+use Rattle.standard.specs.Edge.{Frame, applyFilter, edgeSize}
+use Rattle.standard.specs.FilterSize.{filterLen}
+use Rattle.units.specs.Units.{chromaUnit}
+use Rattle.edges.specs.Edges.{Grid, lumaGrid, chromaGrid, classes, passNo, other, edgeBit}
+use Rattle.decomp.specs.Split.{txAt}
+use Rattle.block.specs.declared.Block.{Block}
+use Rattle.block.specs.Block.{w4, h4, ssx, ssy, Lent}
+use Rattle.record.specs.Recorded.{LumaSeen, ChromaSeen}
+use Rattle.agree.specs.Legal.{Coded, Legal, Tells}
+use Rattle.agree.specs.Promises.{widthOf}
+use Rattle.covering.specs.Standard.{unitAt, rowOf, colOf}
+
+-- ---- the call's block
+
+abbrev pub ssIn : Bool → Block → Pass → ℕ
+ssIn true b d = 0
+ssIn false b columns = ssx b
+ssIn false b rows = ssy b
+
+abbrev pub placeIn : Bool → Block → Pass → ℕ
+placeIn luma b columns = chromaUnit (ssIn luma b columns) (b .x .0)
+placeIn luma b rows = chromaUnit (ssIn luma b rows) (b .y .0)
+
+abbrev pub gridIn : Bool → Block → Grid
+gridIn true b = lumaGrid (w4 b) (h4 b)
+gridIn false b = chromaGrid (ssx b) (ssy b) (w4 b) (h4 b)
+
+abbrev pub SeenIn : Bool → Block → Pass → Piece → Type 0
+SeenIn true b d p = LumaSeen b (right d p) (down d p)
+SeenIn false b d p = ChromaSeen b (right d p) (down d p)
+
+abbrev pub contextIn : Bool → Pass → Lent → List ℕ
+contextIn true columns m = m .left
+contextIn true rows m = m .above
+contextIn false columns m = m .left-uv
+contextIn false rows m = m .above-uv
+
+abbrev pub txIn : Bool → Block → List ℕ → ℕ → ℕ → ℕ
+txIn true b tm x y = cond (b .inter) (txAt tm (b .tx) x y) (b .tx)
+txIn false b tm x y = b .uvtx
+
+-- ---- the standard's
+
+pub record Holds (D : Frame) (plane : ℕ) (C : Coded) (luma : Bool) (b : Block) (tm : List ℕ) : Type 0 where
+  pub plane-is : eqb plane 0 ≡ luma
+  pub right-ss : D .sx plane ≡ ssIn luma b columns
+  pub down-ss : D .sy plane ≡ ssIn luma b rows
+  pub row : C .MiRow ≡ b .y .0
+  pub col : C .MiCol ≡ b .x .0
+  pub size : C .MiSize ≡ b .size
+  pub intra : C .isIntra ≡ not (b .inter)
+  -- `record_intra` is not told of skip
+  pub skip : b .skip ≡ (C .Skip && not (C .isIntra))
+  pub legal : Legal D plane C
+  pub known : (p : Piece) → SeenIn luma b columns p
+      → unitAt D plane columns (p .1) (p .0) ≡ txIn luma b tm (p .0 - placeIn luma b columns) (p .1 - placeIn luma b rows)
+
+abbrev pub Told : Frame → ℕ → Bool → Block → Lent → Pass → Piece → Type 0
+Told D plane luma b m d p =
+    p .0 ≡ placeIn luma b d
+    → Tells plane (passNo d) (unitAt D plane d (p .1) (p .0 - 1)) (getD (contextIn luma d m) (p .1 - placeIn luma b (other d)) 0)
+
+module _ (D : Frame) (plane : ℕ) (d : Pass) (p : Piece) where
+  abbrev pub applies : Bool
+  applies = applyFilter D plane (passNo d) (rowOf D plane d (p .1) (p .0)) (colOf D plane d (p .1) (p .0))
+
+  abbrev pub standardEdge : Option ℕ
+  standardEdge = cond applies (some (filterLen plane (edgeSize D plane (passNo d) (rowOf D plane d (p .1) (p .0)) (colOf D plane d (p .1) (p .0))))) none
+
+-- ---- edges
+
+abbrev pub stands : Option ℕ → Bool
+stands none = false
+stands (some c) = true
+
+abbrev pub widthIn : ℕ → Option ℕ → Option ℕ
+widthIn plane none = none
+widthIn plane (some c) = some (widthOf plane c)
+
+abbrev pub greater : Option ℕ → Option ℕ → Option ℕ
+greater none q = q
+greater (some a) none = some a
+greater (some a) (some b) = some (max a b)
+
+abbrev pub Stays : Grid → Pass → Piece → List ℕ → List ℕ → Type 0
+Stays G d p ms ms′ = (c : ℕ) → c < classes G → isSet ms′ (edgeBit G d p c) ≡ isSet ms (edgeBit G d p c)

@@ -1,0 +1,51 @@
+-- What the calls that record and correct leave in the frame's masks is what the standard filters: of each plane, pass and unit.
+use mathlib.Core.Bool.{Bool, true, cond, _||_}
+use mathlib.Core.List.{List}
+use mathlib.Core.Option.{none}
+use mathlib.Core.Path.{_≡_}
+use Prim.Native.Nat.{ℕ, _-_, _<_}
+use lib.ListN.{getD}
+use Rattle.plane.specs.Line.{Pass, Piece}
+use Rattle.standard.specs.Edge.{Frame}
+use Rattle.edges.specs.Edges.{passNo, other, inFrame, edge}
+use Rattle.edge_at.specs.Bit.{passOf}
+use Rattle.block.specs.declared.Block.{Block}
+use Rattle.block.specs.Block.{Lent}
+use Rattle.record.specs.Record.{RecordAnswer}
+use Rattle.correct.specs.declared.Start.{Start}
+use Rattle.correct.specs.Start.{gridAt, begin, first}
+use Rattle.correct.specs.Answer.{CorrectAnswer}
+use Rattle.correct.specs.Promises.{CorrectedUnit}
+use Rattle.agree.specs.Legal.{Coded, Tells}
+use Rattle.agree.specs.Promises.{start}
+use Rattle.covering.specs.Standard.{unitAt}
+use Rattle.recorded_edges.specs.Held.{placeIn, gridIn, SeenIn, contextIn, Holds, Told, applies, standardEdge, stands, widthIn, greater, Stays}
+
+-- an accepted call of `record_intra` or `record_inter`, whose block the standard's frame holds
+pub record Adds (D : Frame) (plane : ℕ) (luma : Bool) (b : Block) (before after : Lent) : Type 0 where
+  -- at a visible unit there is an edge exactly where applyFilter holds or one was before
+  pub there : (d : Pass) (p : Piece) → SeenIn luma b d p
+      → stands (edge (gridIn luma b) (after .masks) d p) ≡ (applies D plane d p || stands (edge (gridIn luma b) (before .masks) d p))
+  -- its size is 7.14.3's, or the greater of it and the one before
+  pub size : (d : Pass) (p : Piece) → SeenIn luma b d p → Told D plane luma b before d p
+      → widthIn plane (edge (gridIn luma b) (after .masks) d p) ≡ greater (standardEdge D plane d p) (widthIn plane (edge (gridIn luma b) (before .masks) d p))
+
+pub record Promises : Type 0 where
+  pub recorded : (D : Frame) (plane : ℕ) (C : Coded) (luma : Bool) (b : Block) (stride : ℕ) (values tm : List ℕ) (before after : Lent)
+      → RecordAnswer b stride values tm 0 before after → Holds D plane C luma b tm → Adds D plane luma b before after
+  -- at every other unit nothing changes, whatever the frame
+  pub others : (luma : Bool) (b : Block) (stride : ℕ) (values tm : List ℕ) (before after : Lent) → RecordAnswer b stride values tm 0 before after
+      → (d : Pass) (p : Piece) → ¬ SeenIn luma b d p
+      → (edge (gridIn luma b) (after .masks) d p ≡ edge (gridIn luma b) (before .masks) d p)
+      × (inFrame (gridIn luma b) d p ≡ true → Stays (gridIn luma b) d p (before .masks) (after .masks))
+  -- at a tile's start, where contexts hold the highest class, the correction whose context holds the class of the transform before gives the standard's edge;
+  -- between the two calls the unit's bits stay
+  pub corrected : (D : Frame) (plane : ℕ) (C : Coded) (luma : Bool) (b : Block) (stride : ℕ) (values tm : List ℕ) (before after : Lent)
+      → RecordAnswer b stride values tm 0 before after → Holds D plane C luma b tm
+      → (r : Start) (context context-uv masks masks′ : List ℕ) → CorrectAnswer r context context-uv 0 masks masks′ → 0 < begin r → gridAt r luma ≡ gridIn luma b
+      → (p : Piece) → CorrectedUnit r luma p → SeenIn luma b (passOf (r .rows)) p → p .0 ≡ placeIn luma b (passOf (r .rows))
+      → edge (gridIn luma b) (before .masks) (passOf (r .rows)) p ≡ none
+      → getD (contextIn luma (passOf (r .rows)) before) (p .1 - placeIn luma b (other (passOf (r .rows)))) 0 ≡ start plane
+      → Stays (gridIn luma b) (passOf (r .rows)) p (after .masks) masks
+      → Tells plane (passNo (passOf (r .rows))) (unitAt D plane (passOf (r .rows)) (p .1) (p .0 - 1)) (getD (cond luma context context-uv) (p .1 - first r luma) 0)
+      → widthIn plane (edge (gridIn luma b) masks′ (passOf (r .rows)) p) ≡ standardEdge D plane (passOf (r .rows)) p
