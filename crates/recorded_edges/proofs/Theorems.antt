@@ -35,6 +35,7 @@ use Rattle.recorded_edges.specs.Promises.{Promises}
 use Rattle.recorded_edges.proofs.Highest.{highest-same, none-set, raised, highest-raised, raised-stands, width-raised}
 use Rattle.recorded_edges.proofs.Views.{blockIn, owned, its-at, own-bit, other-bit}
 use Rattle.recorded_edges.proofs.Agreed.{agrees, context-is, tells}
+use Rattle.recorded_edges.proofs.Examples.{beside, tile-start}
 
 -- ---- the edge of a unit of the frame
 
@@ -215,4 +216,6 @@ promises =
       others = λ luma b stride values tm before after R d p n.
           (edge-stays b stride values tm before after R luma d p n, stays b stride values tm before after R luma d p n);
       corrected = corrected;
+      beside = beside;
+      tile-start = tile-start;
     }

@@ -19,6 +19,7 @@ use Rattle.correct.specs.Promises.{CorrectedUnit}
 use Rattle.agree.specs.Legal.{Coded, Tells}
 use Rattle.agree.specs.Promises.{start}
 use Rattle.covering.specs.Standard.{unitAt}
+use Rattle.recorded_edges.specs.Example.{Beside, TileStart}
 use Rattle.recorded_edges.specs.Held.{placeIn, gridIn, SeenIn, contextIn, Holds, Told, applies, standardEdge, stands, widthIn, greater, Stays}
 
 -- an accepted call of `record_intra` or `record_inter`, whose block the standard's frame holds
@@ -49,3 +50,6 @@ pub record Promises : Type 0 where
       → Stays (gridIn luma b) (passOf (r .rows)) p (after .masks) masks
       → Tells plane (passNo (passOf (r .rows))) (unitAt D plane (passOf (r .rows)) (p .1) (p .0 - 1)) (getD (cond luma context context-uv) (p .1 - first r luma) 0)
       → widthIn plane (edge (gridIn luma b) masks′ (passOf (r .rows)) p) ≡ standardEdge D plane (passOf (r .rows)) p
+  -- blocks that meet the hypotheses, and the edges that they leave
+  pub beside : Beside
+  pub tile-start : TileStart
