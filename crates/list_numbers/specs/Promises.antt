@@ -1,0 +1,52 @@
+-- What `list` prints of a script, exactly when: document 01, "Edge listing", and "Several at once: the lowest number".
+--   Missing, Formless ls l     line l has `form`, and no line before it a fault
+--   Refused ls l n      line l has its form and a fault, n is the lowest number that refuses it, and no line before it has a fault
+--   Whole ls            frame and level line are there, and no line has a fault
+--   Promises
+-- Here l counts lines from 1, as the program does.
+use mathlib.Core.List.{List}
+use mathlib.Core.Path.{_≡_}
+use Prim.Native.Nat.{ℕ, _+_, _<_, _≤_}
+use lib.ListN.{length}
+use Rattle.loops.specs.Exactly.{Exactly}
+use Rattle.fields.specs.Word.{Bytes}
+use Rattle.text.specs.Text.{refusedText, formText}
+use Rattle.listed.specs.Listed.{listText}
+use Rattle.steps.specs.Steps.{Kept}
+use Rattle.listing.specs.Listing.{linesOf, start, after, heldIn, outputOf}
+use Rattle.list_numbers.specs.Faults.{FormFault, Fault, Sound}
+
+-- a line that is there, or the line that is missing where the script ends before its level line
+pub data NoForm (ls : List (List ℕ)) (j : ℕ) : Type 0 where
+  faulty : j < length ls → FormFault ls j → NoForm ls j
+  missing : j ≡ length ls → j < 2 → NoForm ls j
+
+pub record Formless (ls : List (List ℕ)) (l : ℕ) : Type 0 where
+  pub j : ℕ
+  pub here : l ≡ j + 1
+  pub before : (i : ℕ) → i < j → Sound ls i
+  pub form : NoForm ls j
+
+pub record Refused (ls : List (List ℕ)) (l n : ℕ) : Type 0 where
+  pub j : ℕ
+  pub here : l ≡ j + 1
+  pub j-in : j < length ls
+  pub before : (i : ℕ) → i < j → Sound ls i
+  pub form : ¬ FormFault ls j
+  pub fault : Fault ls j n
+  pub lowest : (m : ℕ) → m < n → ¬ Fault ls j m
+
+pub record Whole (ls : List (List ℕ)) : Type 0 where
+  pub long : 2 ≤ length ls
+  pub all : (j : ℕ) → j < length ls → Sound ls j
+
+abbrev pub listOf : Kept → List ℕ
+listOf k = listText (heldIn (k .state) (k .memory .levels) (k .memory .masks))
+
+pub record Promises : Type 0 where
+  pub form : (script : List ℕ) (l : ℕ) → Bytes script → Exactly (outputOf script ≡ formText l) (Formless (linesOf script) l)
+  -- each number, and so 1, 2, 3, 4 and 5
+  pub number : (script : List ℕ) (l n : ℕ) → Bytes script → Exactly (outputOf script ≡ refusedText l n) (Refused (linesOf script) l n)
+  -- so 6 and 7 never: contexts, levels and masks are always long enough and in range
+  pub five : (script : List ℕ) (l n : ℕ) → Bytes script → outputOf script ≡ refusedText l n → (1 ≤ n) × (n ≤ 5)
+  pub list : (script : List ℕ) → Bytes script → Exactly (outputOf script ≡ listOf (after start (linesOf script))) (Whole (linesOf script))
