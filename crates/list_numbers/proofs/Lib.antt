@@ -1,1 +1,5 @@
 pub mod Texts
+pub mod Moves
+pub mod Rooms
+pub mod Judged
+pub mod Verdicts

@@ -63,7 +63,7 @@ pub data Refuses : Line → Line → ℕ → Type 0 where
       → Refuses f (Frame width height layout depth superblock sharpness) 3
   shape : {f : Line} {width height layout depth superblock sharpness : ℕ} → ShapeFault width height layout superblock
       → Refuses f (Frame width height layout depth superblock sharpness) 4
-  pair-at-400 : {width height layout depth superblock sharpness x y size tx chroma uvtx : ℕ} → layout ≡ 400 → chroma ≡ 1
+  pair-at-400 : {width height layout depth superblock sharpness x y size tx chroma uvtx : ℕ} → layout ≡ 400 → ¬ (chroma ≡ 0)
       → Refuses (Frame width height layout depth superblock sharpness) (Block x y size tx chroma uvtx) 4
   block : {width height layout depth superblock sharpness x y size tx chroma uvtx : ℕ}
       → BlockFault (intraOf width height layout x y size tx chroma uvtx)

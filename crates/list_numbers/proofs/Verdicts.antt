@@ -1,0 +1,133 @@
+-- A line that comes after lines without a fault: its number tells its fault, and after number 0 the next line comes so too.
+use mathlib.Core.Bool.{true, false, cond}
+use mathlib.Core.List.{List, []}
+use mathlib.Core.Logic.{_⊎_, inl, inr, ⊎-elim, by-cases}
+use mathlib.Core.Path.{_≡_, refl, sym, ap, subst, _∙_}
+use Prim.Native.Nat.{ℕ, suc, _+_, _<_, _≤_, min}
+use native.Mathlib.Decide.{ℕ-discrete, decLt}
+use native.Mathlib.Omega.{arith}
+use borrow.Author.Tests.{lt-ltb, le-ltb}
+use lib.ListN.{length, getD}
+use Rattle.units.specs.Layout.{Layout}
+use Rattle.units.proofs.Tests.{reflects-layout}
+use Rattle.fields.specs.Word.{Bytes}
+use Rattle.script.specs.declared.Line.{Line}
+use Rattle.script.specs.declared.Line.the-variants.{Frame, Level, Block, Form}
+use Rattle.script.specs.Script.{lineOf}
+use Rattle.script.specs.Promises.{Says}
+use Rattle.script.proofs.Said.{promises as scripts}
+use Rattle.steps.specs.declared.State.{State}
+use Rattle.steps.specs.Steps.{form, longest, Kept, said, blockOf, atBlock, stepOf}
+use Rattle.steps.specs.Promises.{Proper}
+use Rattle.steps.proofs.Outcomes.{promises as steps}
+use Rattle.list_numbers.specs.Faults.{At, InTurn, FormFault, too-long, no-line, out-of-turn, Refuses, Fault, Sound}
+use Rattle.list_numbers.proofs.Moves.{form-number, frame-late, frame-number, frame-state, level-late, level-number, level-state, block-late, block-number, block-state}
+use Rattle.list_numbers.proofs.Rooms.{Room, step-room, no-6, no-7}
+use Rattle.list_numbers.proofs.Judged.{Judged, clear, refuses, frame-judged, level-judged, block-judged}
+
+pub data Verdict (ls : List (List ℕ)) (j : ℕ) : ℕ → Type 0 where
+  sound : Sound ls j → Verdict ls j 0
+  formless : FormFault ls j → Verdict ls j form
+  refused : {n : ℕ} → ¬ FormFault ls j → Fault ls j n → ((m : ℕ) → m < n → ¬ Fault ls j m) → Verdict ls j n
+
+no-form : (fs : List (List ℕ)) → ¬ Says fs Form
+no-form fs = elim [ ]
+
+module _ (ls : List (List ℕ)) (bytes : (j : ℕ) → Bytes (getD ls j [])) where
+  -- ---- what a line says
+
+  pub same-line : {j : ℕ} {l m : Line} → At ls j l → At ls j m → l ≡ m
+  same-line {j} {l} {m} a b =
+      scripts .unique (getD ls j []) l m (bytes j) (inl (a .fields, a .says, a .is)) (inl (b .fields, b .says, b .is))
+
+  data Told (j : ℕ) : Type 0 where
+    nothing : said (getD ls j []) ≡ Form → FormFault ls j → Told j
+    something : {l : Line} → said (getD ls j []) ≡ l → length (getD ls j []) ≤ longest → At ls j l → Told j
+
+  told : (j : ℕ) → Told j
+  unfolding said
+  told j =
+      by-cases (decLt longest (length (getD ls j [])))
+      (λ h. nothing (rw (lt-ltb longest (length (getD ls j [])) h) refl) (too-long h))
+      (λ h.
+      let e = le-ltb longest (length (getD ls j [])) (omega arith) in
+      ⊎-elim
+      (λ p. something (rw e refl) (omega arith) (record { fields = p .0; says = p .1; is = p .2 }))
+      (λ p. nothing (rw e (p .0)) (no-line (λ l a. p .1 (a .fields) l (a .says) (a .is))))
+      (scripts .reads (getD ls j []) (bytes j)))
+
+  -- ---- a line that is judged
+
+  module _ {j : ℕ} {f l : Line} (first : At ls 0 f) (line : At ls j l) (short : length (getD ls j []) ≤ longest) (turn : InTurn l j) where
+    well-formed : ¬ FormFault ls j
+    well-formed (too-long h) = omega arith
+    well-formed (no-line n) = n l line
+    well-formed (out-of-turn a n) = n (subst (λ (m : Line). InTurn m j) (same-line line a) turn)
+
+    fault-of : {n : ℕ} → Fault ls j n → Refuses f l n
+    fault-of {n} r =
+        subst (λ (g : Line). Refuses g l n) (same-line (r .first-is) first)
+        (subst (λ (m : Line). Refuses (r .first) m n) (same-line (r .line-is) line) (r .refuses))
+
+    judged : {n : ℕ} → Judged f l n → Verdict ls j n
+    judged (clear c) = sound (well-formed, λ n r. c n (fault-of r))
+    judged (refuses r c) =
+        refused well-formed (record { first = f; first-is = first; line = l; line-is = line; refuses = r }) (λ m h g. c m h (fault-of g))
+
+  -- ---- after lines without a fault
+
+  pub record Framed (s : State) : Type 0 where
+    pub depth : ℕ
+    pub superblock : ℕ
+    pub sharpness : ℕ
+    pub is : At ls 0 (Frame (s .width) (s .height) (s .layout) depth superblock sharpness)
+
+  pub record Reached (j : ℕ) (k : Kept) : Type 0 where
+    pub number : k .state .number ≡ 0
+    pub phase : k .state .phase ≡ min j 2
+    pub frame : 0 < j → Framed (k .state)
+    pub proper : Proper (k .state)
+    pub room : Room (k .memory)
+
+  module _ (j : ℕ) (k : Kept) (r : Reached j k) where
+    abbrev s : List ℕ
+    s = getD ls j []
+
+    laid : 0 < j → Layout (k .state .layout)
+    laid h = reflects-layout (k .state .layout) .yes (r .proper .layout (omega (arith, r .phase)))
+
+    pub verdict : Verdict ls j (stepOf k s .state .number)
+    verdict = go (told j)
+      where
+        late : {l : Line} → At ls j l → stepOf k s .state .number ≡ form → ¬ InTurn l j → Verdict ls j (stepOf k s .state .number)
+        late a e n = rw e (formless (out-of-turn a n))
+
+        of : (l : Line) → said s ≡ l → length s ≤ longest → At ls j l → Verdict ls j (stepOf k s .state .number)
+        of (Frame a b c d e f) q h at =
+            by-cases (ℕ-discrete j 0)
+            (λ z. rw (frame-number k s (r .number) q (omega (arith, r .phase))) (judged (subst (λ (i : ℕ). At ls i (Frame a b c d e f)) z at) at h z (frame-judged _ a b c d e f)))
+            (λ z. late at (frame-late k s (r .number) q (λ p. omega (arith, r .phase))) z)
+        of (Level a b c d) q h at =
+            by-cases (ℕ-discrete j 1)
+            (λ z.
+            let f = r .frame (omega arith) in
+            rw (level-number k s (r .number) q (omega (arith, r .phase)))
+            (judged (f .is) at h z (level-judged (k .state .width) (k .state .height) (k .state .layout) (f .depth) (f .superblock) (f .sharpness) a b c d (laid (omega arith)))))
+            (λ z. late at (level-late k s (r .number) q (λ p. omega (arith, r .phase))) z)
+        of (Block x y size tx chroma uvtx) q h at =
+            by-cases (decLt 1 j)
+            (λ z.
+            let f = r .frame (omega arith) in
+            let b = blockOf (k .state) x y size tx chroma uvtx in
+            let w = r .proper .wide (omega (arith, r .phase)) in
+            let v = r .proper .high (omega (arith, r .phase)) in
+            rw (block-number k s (r .number) q (omega (arith, r .phase)))
+            (judged (f .is) at h z
+            (block-judged (k .state .width) (k .state .height) (k .state .layout) (f .depth) (f .superblock) (f .sharpness) x y size tx chroma uvtx
+            (laid (omega arith)) w v (atBlock b (k .memory)) (no-6 b (k .memory) (r .room) (w .1) (v .1)) (no-7 b (k .memory) (r .room) (w .1) (v .1)))))
+            (λ z. late at (block-late k s (r .number) q (λ p. omega (arith, r .phase))) (λ p. z p))
+        of Form q h at = absurd (no-form (at .fields) (at .says))
+
+        go : Told j → Verdict ls j (stepOf k s .state .number)
+        go (nothing e f) = rw (form-number k s (r .number) e) (formless f)
+        go (something {l} e h a) = of l e h a
