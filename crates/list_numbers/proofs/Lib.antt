@@ -3,3 +3,4 @@ pub mod Moves
 pub mod Rooms
 pub mod Judged
 pub mod Verdicts
+pub mod Outputs

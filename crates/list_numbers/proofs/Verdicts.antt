@@ -131,3 +131,48 @@ module _ (ls : List (List ℕ)) (bytes : (j : ℕ) → Bytes (getD ls j [])) whe
         go : Told j → Verdict ls j (stepOf k s .state .number)
         go (nothing e f) = rw (form-number k s (r .number) e) (formless f)
         go (something {l} e h a) = of l e h a
+
+    -- the state after an accepted line
+    pub next : stepOf k s .state .number ≡ 0 → Reached (suc j) (stepOf k s)
+    next z = go (told j)
+      where
+        moved : {t : State} → stepOf k s .state ≡ t → t .phase ≡ min (suc j) 2 → Framed t → Reached (suc j) (stepOf k s)
+        moved e p f =
+            record {
+              number = z;
+              phase = ap (λ (t : State). t .phase) e ∙ p;
+              frame = λ _. subst Framed (sym e) f;
+              proper = steps .proper k s (r .proper);
+              room = step-room k s (r .number) (r .room);
+            }
+
+        never : stepOf k s .state .number ≡ form → Reached (suc j) (stepOf k s)
+        never e = absurd (omega arith)
+
+        of : (l : Line) → said s ≡ l → At ls j l → Reached (suc j) (stepOf k s)
+        of (Frame a b c d e f) q at =
+            by-cases (ℕ-discrete (k .state .phase) 0)
+            (λ p.
+            let y : j ≡ 0 = omega (arith, r .phase) in
+            moved (frame-state k s (r .number) q p (sym (frame-number k s (r .number) q p) ∙ z)) (omega arith)
+            (record { depth = d; superblock = e; sharpness = f; is = subst (λ (i : ℕ). At ls i (Frame a b c d e f)) y at }))
+            (λ p. never (frame-late k s (r .number) q p))
+        of (Level a b c d) q at =
+            by-cases (ℕ-discrete (k .state .phase) 1)
+            (λ p.
+            let f = r .frame (omega (arith, r .phase)) in
+            moved (level-state k s (r .number) q p (sym (level-number k s (r .number) q p) ∙ z)) (omega (arith, r .phase))
+            (record { depth = f .depth; superblock = f .superblock; sharpness = f .sharpness; is = f .is }))
+            (λ p. never (level-late k s (r .number) q p))
+        of (Block x y size tx chroma uvtx) q at =
+            by-cases (ℕ-discrete (k .state .phase) 2)
+            (λ p.
+            let f = r .frame (omega (arith, r .phase)) in
+            moved (block-state k s (r .number) q p (sym (block-number k s (r .number) q p) ∙ z)) (omega (arith, r .phase))
+            (record { depth = f .depth; superblock = f .superblock; sharpness = f .sharpness; is = f .is }))
+            (λ p. never (block-late k s (r .number) q p))
+        of Form q at = absurd (no-form (at .fields) (at .says))
+
+        go : Told j → Reached (suc j) (stepOf k s)
+        go (nothing e f) = never (form-number k s (r .number) e)
+        go (something {l} e h a) = of l e a
