@@ -1,11 +1,12 @@
--- What a line does to the state, by its kind and the phase: the definition, rewritten by its tests.
+-- What a line does to the state and the level values, by its kind and the phase: the definition, rewritten by its tests.
 use mathlib.Core.Bool.{Bool, true, false, cond}
 use mathlib.Core.List.{List}
 use mathlib.Core.Path.{_≡_, refl, sym, ap, _∙_}
 use Prim.Native.Nat.{ℕ, _+_}
 use borrow.Author.Tests.{eq-eqb, ne-eqb, eqb-true}
 use lib.Dec.{eqb}
-use Rattle.levels.specs.Levels.{levelsNumber}
+use Rattle.loops.specs.Table.{tabulate}
+use Rattle.levels.specs.Levels.{byteAt, levelsNumber}
 use Rattle.block.specs.Block.{w4}
 use Rattle.block.specs.Tests.{number}
 use Rattle.script.specs.declared.Line.the-variants.{Frame, Level, Block, Form}
@@ -64,6 +65,11 @@ module _ (k : Kept) (s : List ℕ) (z : k .state .number ≡ 0) where
     unfolding levelled
     level-state p f = rw (step-is, e, eq-eqb (k .state .phase) 1 p, f) refl
 
+    pub level-values : k .state .phase ≡ 1 → levelsNumber (k .state .layout) (bases columns rows u v) ≡ 0
+        → stepOf k s .values ≡ tabulate (byteAt (bases columns rows u v)) 64
+    unfolding levelled
+    level-values p f = rw (step-is, e, eq-eqb (k .state .phase) 1 p, f) refl
+
   module _ {x y size tx chroma uvtx : ℕ} (e : said s ≡ Block x y size tx chroma uvtx) where
     pub block-late : ¬ (k .state .phase ≡ 2) → stepOf k s .state .number ≡ form
     block-late p = rw (step-is, e, ne-eqb (k .state .phase) 2 p) refl
@@ -80,3 +86,9 @@ module _ (k : Kept) (s : List ℕ) (z : k .state .number ≡ 0) where
         → stepOf k s .state ≡ counted (k .state)
     unfolding blocked
     block-state p f = rw (step-is, e, eq-eqb (k .state .phase) 2 p, f) refl
+
+    pub block-values : k .state .phase ≡ 2
+        → (let b = blockOf (k .state) x y size tx chroma uvtx in number b (w4 b) (atBlock b (k .memory))) ≡ 0
+        → stepOf k s .values ≡ k .values
+    unfolding blocked
+    block-values p f = rw (step-is, e, eq-eqb (k .state .phase) 2 p, f) refl

@@ -8,25 +8,29 @@ use native.Mathlib.Decide.{ℕ-discrete, decLt}
 use native.Mathlib.Omega.{arith}
 use borrow.Author.Tests.{eq-eqb, ne-eqb, lt-ltb, le-ltb}
 use lib.Dec.{eqb}
-use lib.ListN.{length, getD, take, List·getD-eq-default}
-use lib.Seq.{take-all}
+use lib.ListN.{length, getD, take, drop, List·getD-eq-default}
+use lib.Seq.{take-all, take-at}
 use Rattle.loops.specs.Exactly.{Exactly}
+use Rattle.loops.specs.Table.{tabulate}
+use Rattle.loops.proofs.Tables.{length-tabulate}
+use Rattle.levels.specs.Levels.{byteAt, levelsDone, LevelsAnswer}
 use Rattle.fields.specs.Fields.{joined}
 use Rattle.fields.specs.Word.{Bytes}
 use Rattle.script.specs.declared.Line.{Line}
+use Rattle.script.specs.declared.Line.the-variants.{Frame, Level, Block, Form}
 use Rattle.script.specs.Script.{space}
 use Rattle.script.specs.Promises.{Says, frame, level, block}
 use Rattle.text.specs.Text.{end, refusedText, formText}
-use Rattle.steps.specs.Steps.{form, Kept, stepOf}
+use Rattle.steps.specs.Steps.{form, Kept, bases, stepOf}
 use Rattle.listing.specs.Listing.{push, linesOf, start, after, textIn, outputOf}
 use Rattle.listing.specs.Promises.{Stops}
 use Rattle.listing.proofs.Runs.{unrefused, stops}
 use Rattle.listing.proofs.Lefts.{left}
 use Rattle.list_numbers.specs.Faults.{FormFault, no-line, Refuses, sharpness-above, level, depth-other, shape, pair-at-400, block, Fault, Sound}
-use Rattle.list_numbers.specs.Promises.{NoForm, faulty, missing, Formless, Refused, Whole, listOf, Promises}
+use Rattle.list_numbers.specs.Promises.{NoForm, faulty, missing, Formless, Refused, Whole, listOf, Ends, formless, refused, whole, Keeps, Promises}
 use Rattle.list_numbers.proofs.Texts.{refused-same, form-same, form-refused, list-refused, list-form}
 use Rattle.list_numbers.proofs.Rooms.{start-room}
-use Rattle.list_numbers.proofs.Verdicts.{Verdict, sound, formless, refused, Reached, verdict, next}
+use Rattle.list_numbers.proofs.Verdicts.{Verdict, sound, formless, refused, same-line, Reached, verdict, next}
 
 -- ---- the bytes of lines
 
@@ -70,6 +74,11 @@ module _ {ls : List (List ℕ)} where
   sound-is (formless f) e = absurd (omega arith)
   sound-is (refused g f m) e = absurd (omega (arith, refuses-low (f .refuses)))
 
+  number-0 : {j n : ℕ} → Verdict ls j n → Sound ls j → n ≡ 0
+  number-0 (sound s) g = refl
+  number-0 (formless f) g = absurd (g .0 f)
+  number-0 (refused {n} h f m) g = absurd (g .1 n f)
+
   -- the first line that has a fault
   first-same : (i j : ℕ) → ((h : ℕ) → h < i → Sound ls h) → ((h : ℕ) → h < j → Sound ls h) → ¬ Sound ls i → ¬ Sound ls j → i ≡ j
   first-same i j p q f g =
@@ -108,6 +117,20 @@ module _ {ls : List (List ℕ)} where
       go (faulty h e) = form-unsound f (w .all (f .j) h)
       go (missing e h) = omega (arith, w .long)
 
+-- ---- what lines say
+
+abbrev ofFrame : (ℕ → ℕ → ℕ → ℕ) → Line → ℕ
+ofFrame g (Frame a b c d e f) = g a b c
+ofFrame g (Level a b c d) = 0
+ofFrame g (Block a b c d e f) = 0
+ofFrame g Form = 0
+
+first-64 : (columns rows u v : ℕ) (before values : List ℕ) {layout : ℕ} → LevelsAnswer layout (bases columns rows u v) 0 before values
+    → take 64 values ≡ tabulate (byteAt (bases columns rows u v)) 64
+unfolding levelsDone
+first-64 columns rows u v before values g =
+    let x = bases columns rows u v in ap (take 64) (g .stored) ∙ take-at (tabulate (byteAt x) 64) (drop 64 before) 64 (length-tabulate (byteAt x) 64)
+
 -- ---- line after line
 
 after-next : (k : Kept) (ls : List (List ℕ)) (j : ℕ) → j < length ls → after k (take (suc j) ls) ≡ stepOf (after k (take j ls)) (getD ls j [])
@@ -123,6 +146,7 @@ module _ (ls : List (List ℕ)) (bytes : (j : ℕ) → Bytes (getD ls j [])) whe
         number = refl;
         phase = refl;
         frame = λ h. absurd (omega arith);
+        values = λ _ _ _ _ h. absurd (omega arith);
         proper = record { wide = λ h. absurd (omega arith); high = λ h. absurd (omega arith); layout = λ h. absurd (omega arith) };
         room = start-room;
       }
@@ -139,6 +163,24 @@ module _ (ls : List (List ℕ)) (bytes : (j : ℕ) → Bytes (getD ls j [])) whe
         λ i l. by-cases (decLt i j) (r .1 i)
             (λ n. let q : j ≡ i = omega arith in subst (Sound ls) q (sound-is (verdict ls bytes j k (r .0)) y)),
       )
+
+  accepted-so-far : (j : ℕ) → j ≤ length ls → ((i : ℕ) → i < j → Sound ls i) → after start (take j ls) .state .number ≡ 0
+  accepted-so-far zero h f = start-reached .number
+  accepted-so-far (suc j) h f =
+      let k = after start (take j ls) in
+      let z = accepted-so-far j (omega arith) (λ i l. f i (omega arith)) in
+      ap (λ (m : Kept). m .state .number) (after-next start ls j h)
+      ∙ number-0 (verdict ls bytes j k (reach j (omega arith) z .0)) (f j (omega arith))
+
+  keeps : (j : ℕ) → j ≤ length ls → ((i : ℕ) → i < j → Sound ls i) → Keeps ls j (after start (take j ls))
+  keeps j h f =
+      let r = reach j h (accepted-so-far j h f) .0 in
+      record {
+        frame = λ width height layout depth superblock sharpness p a.
+            let e = same-line ls bytes (r .frame p .is) a in
+            (ap (ofFrame (λ w v l. w)) e, ap (ofFrame (λ w v l. v)) e, ap (ofFrame (λ w v l. l)) e);
+        values = λ columns rows u v before values p a g. r .values columns rows u v p a ∙ sym (first-64 columns rows u v before values g);
+      }
 
 -- ---- the text
 
@@ -241,11 +283,21 @@ module _ (script : List ℕ) (b : Bytes script) where
       always (forms f e) w = absurd (whole-formless w f)
       always (numbers r e) w = absurd (whole-refused w r)
 
+  ends : Ends (linesOf script)
+  ends = go (ending script b)
+    where
+      go : Ending script → Ends (linesOf script)
+      go (lists w e) = whole w
+      go (forms f e) = formless f
+      go (numbers r e) = refused r
+
 pub promises : Promises
 promises =
     record {
       form = λ script l b. exactly-form script b l;
       number = λ script l n b. exactly-number script b l n;
-      five = λ script l n b e. refuses-low (exactly-number script b l n .only e .fault .refuses);
+      to-5 = λ script l n b e. refuses-low (exactly-number script b l n .only e .fault .refuses);
       list = λ script b. exactly-list script b;
+      ends = λ script b. ends script b;
+      keeps = λ script j b. keeps (linesOf script) (line-bytes script b) j;
     }

@@ -8,8 +8,10 @@ use native.Mathlib.Decide.{ℕ-discrete, decLt}
 use native.Mathlib.Omega.{arith}
 use borrow.Author.Tests.{lt-ltb, le-ltb}
 use lib.ListN.{length, getD}
+use Rattle.loops.specs.Table.{tabulate}
 use Rattle.units.specs.Layout.{Layout}
 use Rattle.units.proofs.Tests.{reflects-layout}
+use Rattle.levels.specs.Levels.{byteAt}
 use Rattle.fields.specs.Word.{Bytes}
 use Rattle.script.specs.declared.Line.{Line}
 use Rattle.script.specs.declared.Line.the-variants.{Frame, Level, Block, Form}
@@ -17,11 +19,11 @@ use Rattle.script.specs.Script.{lineOf}
 use Rattle.script.specs.Promises.{Says}
 use Rattle.script.proofs.Said.{promises as scripts}
 use Rattle.steps.specs.declared.State.{State}
-use Rattle.steps.specs.Steps.{form, longest, Kept, said, blockOf, atBlock, stepOf}
+use Rattle.steps.specs.Steps.{form, longest, Kept, said, bases, blockOf, atBlock, stepOf}
 use Rattle.steps.specs.Promises.{Proper}
 use Rattle.steps.proofs.Outcomes.{promises as steps}
 use Rattle.list_numbers.specs.Faults.{At, InTurn, FormFault, too-long, no-line, out-of-turn, Refuses, Fault, Sound}
-use Rattle.list_numbers.proofs.Moves.{form-number, frame-late, frame-number, frame-state, level-late, level-number, level-state, block-late, block-number, block-state}
+use Rattle.list_numbers.proofs.Moves.{form-number, frame-late, frame-number, frame-state, level-late, level-number, level-state, level-values, block-late, block-number, block-state, block-values}
 use Rattle.list_numbers.proofs.Rooms.{Room, step-room, no-6, no-7}
 use Rattle.list_numbers.proofs.Judged.{Judged, clear, refuses, frame-judged, level-judged, block-judged}
 
@@ -29,6 +31,13 @@ pub data Verdict (ls : List (List ℕ)) (j : ℕ) : ℕ → Type 0 where
   sound : Sound ls j → Verdict ls j 0
   formless : FormFault ls j → Verdict ls j form
   refused : {n : ℕ} → ¬ FormFault ls j → Fault ls j n → ((m : ℕ) → m < n → ¬ Fault ls j m) → Verdict ls j n
+
+-- the level values of a level line
+abbrev valuesOf : Line → List ℕ
+valuesOf (Frame a b c d e f) = []
+valuesOf (Level a b c d) = tabulate (byteAt (bases a b c d)) 64
+valuesOf (Block a b c d e f) = []
+valuesOf Form = []
 
 no-form : (fs : List (List ℕ)) → ¬ Says fs Form
 no-form fs = elim [ ]
@@ -86,6 +95,7 @@ module _ (ls : List (List ℕ)) (bytes : (j : ℕ) → Bytes (getD ls j [])) whe
     pub number : k .state .number ≡ 0
     pub phase : k .state .phase ≡ min j 2
     pub frame : 0 < j → Framed (k .state)
+    pub values : (columns rows u v : ℕ) → 1 < j → At ls 1 (Level columns rows u v) → k .values ≡ tabulate (byteAt (bases columns rows u v)) 64
     pub proper : Proper (k .state)
     pub room : Room (k .memory)
 
@@ -136,12 +146,15 @@ module _ (ls : List (List ℕ)) (bytes : (j : ℕ) → Bytes (getD ls j [])) whe
     pub next : stepOf k s .state .number ≡ 0 → Reached (suc j) (stepOf k s)
     next z = go (told j)
       where
-        moved : {t : State} → stepOf k s .state ≡ t → t .phase ≡ min (suc j) 2 → Framed t → Reached (suc j) (stepOf k s)
-        moved e p f =
+        moved : {t : State} → stepOf k s .state ≡ t → t .phase ≡ min (suc j) 2 → Framed t
+            → ((columns rows u v : ℕ) → 1 < suc j → At ls 1 (Level columns rows u v) → stepOf k s .values ≡ tabulate (byteAt (bases columns rows u v)) 64)
+            → Reached (suc j) (stepOf k s)
+        moved e p f v =
             record {
               number = z;
               phase = ap (λ (t : State). t .phase) e ∙ p;
               frame = λ _. subst Framed (sym e) f;
+              values = v;
               proper = steps .proper k s (r .proper);
               room = step-room k s (r .number) (r .room);
             }
@@ -155,21 +168,28 @@ module _ (ls : List (List ℕ)) (bytes : (j : ℕ) → Bytes (getD ls j [])) whe
             (λ p.
             let y : j ≡ 0 = omega (arith, r .phase) in
             moved (frame-state k s (r .number) q p (sym (frame-number k s (r .number) q p) ∙ z)) (omega arith)
-            (record { depth = d; superblock = e; sharpness = f; is = subst (λ (i : ℕ). At ls i (Frame a b c d e f)) y at }))
+            (record { depth = d; superblock = e; sharpness = f; is = subst (λ (i : ℕ). At ls i (Frame a b c d e f)) y at })
+            (λ _ _ _ _ h. absurd (omega arith)))
             (λ p. never (frame-late k s (r .number) q p))
         of (Level a b c d) q at =
             by-cases (ℕ-discrete (k .state .phase) 1)
             (λ p.
             let f = r .frame (omega (arith, r .phase)) in
-            moved (level-state k s (r .number) q p (sym (level-number k s (r .number) q p) ∙ z)) (omega (arith, r .phase))
-            (record { depth = f .depth; superblock = f .superblock; sharpness = f .sharpness; is = f .is }))
+            let n = sym (level-number k s (r .number) q p) ∙ z in
+            let y : j ≡ 1 = omega (arith, r .phase) in
+            moved (level-state k s (r .number) q p n) (omega (arith, r .phase))
+            (record { depth = f .depth; superblock = f .superblock; sharpness = f .sharpness; is = f .is })
+            (λ columns rows u v _ g.
+            level-values k s (r .number) q p n ∙ ap valuesOf (same-line (subst (λ (i : ℕ). At ls i (Level a b c d)) y at) g)))
             (λ p. never (level-late k s (r .number) q p))
         of (Block x y size tx chroma uvtx) q at =
             by-cases (ℕ-discrete (k .state .phase) 2)
             (λ p.
             let f = r .frame (omega (arith, r .phase)) in
-            moved (block-state k s (r .number) q p (sym (block-number k s (r .number) q p) ∙ z)) (omega (arith, r .phase))
-            (record { depth = f .depth; superblock = f .superblock; sharpness = f .sharpness; is = f .is }))
+            let n = sym (block-number k s (r .number) q p) ∙ z in
+            moved (block-state k s (r .number) q p n) (omega (arith, r .phase))
+            (record { depth = f .depth; superblock = f .superblock; sharpness = f .sharpness; is = f .is })
+            (λ columns rows u v _ g. block-values k s (r .number) q p n ∙ r .values columns rows u v (omega (arith, r .phase)) g))
             (λ p. never (block-late k s (r .number) q p))
         of Form q at = absurd (no-form (at .fields) (at .says))
 

@@ -1,20 +1,26 @@
 -- What `list` prints of a script, exactly when: document 01, "Edge listing", and "Several at once: the lowest number".
---   Missing, Formless ls l     line l has `form`, and no line before it a fault
---   Refused ls l n      line l has its form and a fault, n is the lowest number that refuses it, and no line before it has a fault
---   Whole ls            frame and level line are there, and no line has a fault
+--   NoForm ls j        line j has `form`
+--   Formless ls l      line l has `form`, and no line before it has a fault
+--   Refused ls l n     line l has its form and a fault, n is the lowest number that refuses it, and no line before it has a fault
+--   Whole ls           frame and level line are there, and no line has a fault
+--   listOf k           the list of what is kept
+--   Ends ls            one of the three
+--   Keeps ls j k       k has the frame of the frame line, and the level values of the level line, where these are among the first j lines
 --   Promises
--- Here l counts lines from 1, as the program does.
+-- Here l counts lines from 1, as the program does. A script is bytes.
 use mathlib.Core.List.{List}
 use mathlib.Core.Path.{_≡_}
 use Prim.Native.Nat.{ℕ, _+_, _<_, _≤_}
-use lib.ListN.{length}
+use lib.ListN.{length, take}
 use Rattle.loops.specs.Exactly.{Exactly}
+use Rattle.levels.specs.Levels.{LevelsAnswer}
 use Rattle.fields.specs.Word.{Bytes}
+use Rattle.script.specs.declared.Line.the-variants.{Frame, Level}
 use Rattle.text.specs.Text.{refusedText, formText}
 use Rattle.listed.specs.Listed.{listText}
-use Rattle.steps.specs.Steps.{Kept}
+use Rattle.steps.specs.Steps.{Kept, bases}
 use Rattle.listing.specs.Listing.{linesOf, start, after, heldIn, outputOf}
-use Rattle.list_numbers.specs.Faults.{FormFault, Fault, Sound}
+use Rattle.list_numbers.specs.Faults.{At, FormFault, Fault, Sound}
 
 -- a line that is there, or the line that is missing where the script ends before its level line
 pub data NoForm (ls : List (List ℕ)) (j : ℕ) : Type 0 where
@@ -43,10 +49,25 @@ pub record Whole (ls : List (List ℕ)) : Type 0 where
 abbrev pub listOf : Kept → List ℕ
 listOf k = listText (heldIn (k .state) (k .memory .levels) (k .memory .masks))
 
+pub data Ends (ls : List (List ℕ)) : Type 0 where
+  formless : {l : ℕ} → Formless ls l → Ends ls
+  refused : {l n : ℕ} → Refused ls l n → Ends ls
+  whole : Whole ls → Ends ls
+
+pub record Keeps (ls : List (List ℕ)) (j : ℕ) (k : Kept) : Type 0 where
+  pub frame : (width height layout depth superblock sharpness : ℕ) → 0 < j → At ls 0 (Frame width height layout depth superblock sharpness)
+      → (k .state .width ≡ width) × (k .state .height ≡ height) × (k .state .layout ≡ layout)
+  -- the first 64 values that `levels` leaves
+  pub values : (columns rows u v : ℕ) (before after : List ℕ) → 1 < j → At ls 1 (Level columns rows u v)
+      → LevelsAnswer (k .state .layout) (bases columns rows u v) 0 before after → k .values ≡ take 64 after
+
 pub record Promises : Type 0 where
   pub form : (script : List ℕ) (l : ℕ) → Bytes script → Exactly (outputOf script ≡ formText l) (Formless (linesOf script) l)
   -- each number, and so 1, 2, 3, 4 and 5
   pub number : (script : List ℕ) (l n : ℕ) → Bytes script → Exactly (outputOf script ≡ refusedText l n) (Refused (linesOf script) l n)
-  -- so 6 and 7 never: contexts, levels and masks are always long enough and in range
-  pub five : (script : List ℕ) (l n : ℕ) → Bytes script → outputOf script ≡ refusedText l n → (1 ≤ n) × (n ≤ 5)
   pub list : (script : List ℕ) → Bytes script → Exactly (outputOf script ≡ listOf (after start (linesOf script))) (Whole (linesOf script))
+  pub ends : (script : List ℕ) → Bytes script → Ends (linesOf script)
+  -- 6 and 7 never come from a script: contexts are long enough and in range, levels and masks long enough
+  pub to-5 : (script : List ℕ) (l n : ℕ) → Bytes script → outputOf script ≡ refusedText l n → (1 ≤ n) × (n ≤ 5)
+  pub keeps : (script : List ℕ) (j : ℕ) → Bytes script → j ≤ length (linesOf script) → ((i : ℕ) → i < j → Sound (linesOf script) i)
+      → Keeps (linesOf script) j (after start (take j (linesOf script)))
