@@ -1,35 +1,34 @@
 -- The number of a line that comes in its turn is the lowest that refuses it, 0 where none does: each test reflects its fault.
 use mathlib.Core.Bool.{Bool, true, false, cond, not, _&&_, false≢true}
-use mathlib.Core.List.{List, []}
 use mathlib.Core.Logic.{_⊎_, inl, inr, ⊎-elim, by-cases}
-use mathlib.Core.Path.{_≡_, refl, sym, ap, subst, _∙_}
+use mathlib.Core.Path.{_≡_, refl, sym, ap, subst}
 use Prim.Native.Nat.{ℕ, zero, suc, _+_, _*_, _<_, _≤_}
 use native.Mathlib.Decide.{ℕ-discrete, decLt}
 use native.Mathlib.Omega.{arith}
 use borrow.Author.Tests.{ne-eqb}
-use lib.Dec.{eqb, ltb}
+use lib.Dec.{ltb}
 use lib.IntN.{ℤ, pos}
-use lib.ListN.{length, getD, replicate, length-replicate, getD-replicate, List·getD-eq-default}
-use Rattle.loops.specs.Exactly.{Exactly, Reflects}
+use lib.ListN.{replicate, length-replicate, getD-replicate, List·getD-eq-default}
+use Rattle.loops.specs.Exactly.{Reflects}
 use Rattle.loops.proofs.Reflected.{reflects-ltb, reflects-leb, reflects-eqb, reflects-not, reflects-and, reflects-or}
 use Rattle.units.specs.Layout.{Layout, layoutOk}
 use Rattle.units.specs.Frame.{superblockOk}
 use Rattle.units.proofs.Tests.{reflects-layout, reflects-superblock}
 use Rattle.deltas.specs.Deltas.{delta, outside, Outside}
 use Rattle.deltas.proofs.Range.{reflects-outside}
-use Rattle.levels.specs.Levels.{outOfRange, levelsNumber}
+use Rattle.levels.specs.Levels.{levelsNumber}
 use Rattle.levels.specs.Promises.{base-above-63, ref-outside, mode-outside, lf-outside, seg-outside, chroma-at-400}
 use Rattle.levels.specs.Promises as levels
-use Rattle.levels.proofs.Numbers.{exactly-2 as levels-2, exactly-4 as levels-4, exactly-0 as levels-0}
+use Rattle.levels.proofs.Numbers.{exactly-2 as levels-2, exactly-0 as levels-0}
 use Rattle.block.specs.declared.Block.{Block as BlockIn}
 use Rattle.block.specs.Block.{w4, Lent}
-use Rattle.block.specs.Tests.{shapeBad, codeBad, placeBad, txBad, maxTxBad, refBad, lumaContextsBad, chromaContextsBad, lengthBad, number}
+use Rattle.block.specs.Tests.{number}
 use Rattle.block.specs.Faults.{BlockFault, ContextsFault, LengthFault}
 use Rattle.block.specs.Faults as blocks
-use Rattle.block.proofs.Numbers.{exactly-4 as block-4, exactly-5 as block-5, exactly-6 as block-6, exactly-7 as block-7, exactly-0 as block-0}
-use Rattle.record.specs.Record.{intraOf, on}
+use Rattle.block.proofs.Numbers.{exactly-4 as block-4, exactly-5 as block-5, exactly-0 as block-0}
+use Rattle.record.specs.Record.{intraOf}
 use Rattle.script.specs.declared.Line.{Line}
-use Rattle.script.specs.declared.Line.the-variants.{Frame, Level, Block, Form}
+use Rattle.script.specs.declared.Line.the-variants.{Frame, Level, Block}
 use Rattle.steps.specs.Steps.{sideOk, depthOk, frameNumber, bases}
 use Rattle.list_numbers.specs.Faults.{DepthFault, ShapeFault, layout-other, width-outside, height-outside, superblock-other}
 use Rattle.list_numbers.specs.Faults.{LevelFault, columns-above, rows-above, u-above, v-above, u-at-400, v-at-400}

@@ -1,7 +1,7 @@
 -- What a line does to the state and the level values, by its kind and the phase: the definition, rewritten by its tests.
 use mathlib.Core.Bool.{Bool, true, false, cond}
 use mathlib.Core.List.{List}
-use mathlib.Core.Path.{_≡_, refl, sym, ap, _∙_}
+use mathlib.Core.Path.{_≡_, refl, sym, _∙_}
 use Prim.Native.Nat.{ℕ, _+_}
 use borrow.Author.Tests.{eq-eqb, ne-eqb, eqb-true}
 use lib.Dec.{eqb}
@@ -11,7 +11,7 @@ use Rattle.block.specs.Block.{w4}
 use Rattle.block.specs.Tests.{number}
 use Rattle.script.specs.declared.Line.the-variants.{Frame, Level, Block, Form}
 use Rattle.steps.specs.declared.State.{State}
-use Rattle.steps.specs.Steps.{form, Kept, kept, stateOf, counted, said, frameNumber, framed, bases, levelled, blockOf, atBlock, stored, blocked, taken, stepOf}
+use Rattle.steps.specs.Steps.{form, Kept, kept, stateOf, counted, said, frameNumber, framed, bases, levelled, blockOf, atBlock, blocked, taken, stepOf}
 
 -- a test of the number alone: what is kept has that number
 numbered : (n : ℕ) (x y : State) → x .number ≡ 0 → y .number ≡ n → cond (eqb n 0) x y .number ≡ n

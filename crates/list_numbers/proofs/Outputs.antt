@@ -1,7 +1,7 @@
 -- What a script prints: its lines are walked with `verdict`, so it ends in one of three ways; only one fits the faults, and only one fits the text.
 use mathlib.Core.Bool.{Bool, true, false, cond}
 use mathlib.Core.List.{List, [], _∷_}
-use mathlib.Core.Logic.{_⊎_, inl, inr, ⊎-elim, by-cases}
+use mathlib.Core.Logic.{by-cases}
 use mathlib.Core.Path.{_≡_, refl, sym, ap, subst, _∙_}
 use Prim.Native.Nat.{ℕ, zero, suc, _+_, _<_, _≤_, min}
 use native.Mathlib.Decide.{ℕ-discrete, decLt}
@@ -21,7 +21,7 @@ use Rattle.script.specs.declared.Line.the-variants.{Frame, Level, Block, Form}
 use Rattle.script.specs.Script.{space}
 use Rattle.script.specs.Promises.{Says, frame, level, block}
 use Rattle.text.specs.Text.{end, refusedText, formText}
-use Rattle.steps.specs.Steps.{form, Kept, bases, stepOf}
+use Rattle.steps.specs.Steps.{form, Kept, bases, blockOf, stepOf}
 use Rattle.listing.specs.Listing.{push, linesOf, start, after, textIn, outputOf}
 use Rattle.listing.specs.Promises.{Stops}
 use Rattle.listing.proofs.Runs.{unrefused, stops}
@@ -29,7 +29,7 @@ use Rattle.listing.proofs.Lefts.{left}
 use Rattle.list_numbers.specs.Faults.{FormFault, no-line, Refuses, sharpness-above, level, depth-other, shape, pair-at-400, block, Fault, Sound}
 use Rattle.list_numbers.specs.Promises.{NoForm, faulty, missing, Formless, Refused, Whole, listOf, Ends, formless, refused, whole, Keeps, Promises}
 use Rattle.list_numbers.proofs.Texts.{refused-same, form-same, form-refused, list-refused, list-form}
-use Rattle.list_numbers.proofs.Rooms.{start-room}
+use Rattle.list_numbers.proofs.Rooms.{start-room, no-6, no-7}
 use Rattle.list_numbers.proofs.Verdicts.{Verdict, sound, formless, refused, same-line, Reached, verdict, next}
 
 -- ---- the bytes of lines
@@ -176,10 +176,17 @@ module _ (ls : List (List ℕ)) (bytes : (j : ℕ) → Bytes (getD ls j [])) whe
   keeps j h f =
       let r = reach j h (accepted-so-far j h f) .0 in
       record {
+        number = r .number;
         frame = λ width height layout depth superblock sharpness p a.
             let e = same-line ls bytes (r .frame p .is) a in
             (ap (ofFrame (λ w v l. w)) e, ap (ofFrame (λ w v l. v)) e, ap (ofFrame (λ w v l. l)) e);
         values = λ columns rows u v before values p a g. r .values columns rows u v p a ∙ sym (first-64 columns rows u v before values g);
+        room = λ x y size tx chroma uvtx p.
+            let k = after start (take j ls) in
+            let b = blockOf (k .state) x y size tx chroma uvtx in
+            let w = r .proper .wide (omega (arith, r .phase)) .1 in
+            let v = r .proper .high (omega (arith, r .phase)) .1 in
+            (no-6 b (k .memory) (r .room) w v, no-7 b (k .memory) (r .room) w v);
       }
 
 -- ---- the text

@@ -1,9 +1,9 @@
 -- Contexts, levels and masks are always long enough and in range, line by line: an accepted block leaves classes in its contexts, and no other line stores anything.
 use mathlib.Core.Bool.{Bool, true, false, cond}
 use mathlib.Core.List.{List, []}
-use mathlib.Core.Logic.{_⊎_, inl, inr, ⊎-elim, by-cases}
+use mathlib.Core.Logic.{by-cases}
 use mathlib.Core.Path.{_≡_, refl, sym, ap, subst, _∙_}
-use Prim.Native.Nat.{ℕ, _+_, _-_, _*_, _/_, _^_, _<_, _≤_, min}
+use Prim.Native.Nat.{ℕ, _+_, _-_, _*_, _/_, _<_, _≤_, min}
 use native.Mathlib.Decide.{ℕ-discrete, decLt}
 use native.Mathlib.Omega.{arith}
 use lib.Dec.{eqb, ltb}
@@ -11,8 +11,8 @@ use lib.ListN.{length, getD, take, drop, replicate, length-replicate, length-dro
 use lib.Seq.{getD-take, getD-drop}
 use Rattle.loops.proofs.Lists.{prod-le}
 use Rattle.standard.specs.Sizes.{Tx_Wide, Tx_High}
-use Rattle.units.specs.Units.{chromaUnit, chromaUnits}
-use Rattle.units.specs.Sizes.{log2, lumaClass, chromaClass}
+use Rattle.units.specs.Units.{chromaUnits}
+use Rattle.units.specs.Sizes.{chromaClass}
 use Rattle.block.specs.declared.Block.{Block}
 use Rattle.block.specs.Block.{w4, h4, ssx, ssy, bw4, bh4, cbw4, cbh4, seesLuma, seesChroma, Lent}
 use Rattle.block.specs.Faults.{ContextFault, fewer, above-range, ContextsFault, above, left, above-uv, left-uv, LengthFault, stride-below, levels-short, masks-short}

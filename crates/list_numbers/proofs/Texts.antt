@@ -1,19 +1,17 @@
 -- Two texts of refused lines are the same only for the same line and number: digits end at the first byte that is none, and a number is the value of its digits.
-use mathlib.Core.Bool.{true, false, _&&_, false≢true}
+use mathlib.Core.Bool.{true, false, false≢true}
 use mathlib.Core.List.{List, [], _∷_, _++_, append-assoc}
 use mathlib.Core.Logic.{by-cases}
 use mathlib.Core.Path.{_≡_, refl, sym, ap, _∙_}
 use Prim.Native.Nat.{ℕ, zero, suc, _+_, _-_, _*_, _/_, _%_, _≤_, _<_}
 use native.Mathlib.Decide.{decLt}
 use native.Mathlib.Omega.{arith}
-use borrow.Author.Tests.{leb-true, le-leb}
-use lib.Dec.{leb}
-use lib.ListN.{length, getD, drop}
-use lib.Seq.{drop-at}
+use borrow.Author.Tests.{le-leb}
+use lib.ListN.{getD, drop}
 use Rattle.loops.proofs.Bools.{both-true}
 use Rattle.decimal.specs.Decimal.{isDigit, digits, value, decimal}
 use Rattle.decimal.proofs.Numerals.{decimal-one, decimal-more}
-use Rattle.text.specs.Text.{tab, end, header, refused, fieldText, refusedText, formText}
+use Rattle.text.specs.Text.{tab, end, refused, fieldText, refusedText, formText}
 use Rattle.listed.specs.Listed.{Held, listText}
 
 -- ---- the digits of a number

@@ -1,9 +1,8 @@
 -- A line that comes after lines without a fault: its number tells its fault, and after number 0 the next line comes so too.
-use mathlib.Core.Bool.{true, false, cond}
 use mathlib.Core.List.{List, []}
-use mathlib.Core.Logic.{_⊎_, inl, inr, ⊎-elim, by-cases}
+use mathlib.Core.Logic.{inl, ⊎-elim, by-cases}
 use mathlib.Core.Path.{_≡_, refl, sym, ap, subst, _∙_}
-use Prim.Native.Nat.{ℕ, suc, _+_, _<_, _≤_, min}
+use Prim.Native.Nat.{ℕ, suc, _<_, _≤_, min}
 use native.Mathlib.Decide.{ℕ-discrete, decLt}
 use native.Mathlib.Omega.{arith}
 use borrow.Author.Tests.{lt-ltb, le-ltb}
@@ -15,7 +14,6 @@ use Rattle.levels.specs.Levels.{byteAt}
 use Rattle.fields.specs.Word.{Bytes}
 use Rattle.script.specs.declared.Line.{Line}
 use Rattle.script.specs.declared.Line.the-variants.{Frame, Level, Block, Form}
-use Rattle.script.specs.Script.{lineOf}
 use Rattle.script.specs.Promises.{Says}
 use Rattle.script.proofs.Said.{promises as scripts}
 use Rattle.steps.specs.declared.State.{State}

@@ -5,7 +5,8 @@
 --   Whole ls           frame and level line are there, and no line has a fault
 --   listOf k           the list of what is kept
 --   Ends ls            one of the three
---   Keeps ls j k       k has the frame of the frame line, and the level values of the level line, where these are among the first j lines
+--   Keeps ls j k       no line is refused yet; k has the frame of the frame line and the level values of the level line, if these are among the first j lines,
+--                      and memory that suffices
 --   Promises
 -- Here l counts lines from 1, as the program does. A script is bytes.
 use mathlib.Core.List.{List}
@@ -14,11 +15,13 @@ use Prim.Native.Nat.{ℕ, _+_, _<_, _≤_}
 use lib.ListN.{length, take}
 use Rattle.loops.specs.Exactly.{Exactly}
 use Rattle.levels.specs.Levels.{LevelsAnswer}
+use Rattle.block.specs.Block.{w4}
+use Rattle.block.specs.Faults.{ContextsFault, LengthFault}
 use Rattle.fields.specs.Word.{Bytes}
 use Rattle.script.specs.declared.Line.the-variants.{Frame, Level}
 use Rattle.text.specs.Text.{refusedText, formText}
 use Rattle.listed.specs.Listed.{listText}
-use Rattle.steps.specs.Steps.{Kept, bases}
+use Rattle.steps.specs.Steps.{Kept, bases, blockOf, atBlock}
 use Rattle.listing.specs.Listing.{linesOf, start, after, heldIn, outputOf}
 use Rattle.list_numbers.specs.Faults.{At, FormFault, Fault, Sound}
 
@@ -55,11 +58,16 @@ pub data Ends (ls : List (List ℕ)) : Type 0 where
   whole : Whole ls → Ends ls
 
 pub record Keeps (ls : List (List ℕ)) (j : ℕ) (k : Kept) : Type 0 where
+  pub number : k .state .number ≡ 0
   pub frame : (width height layout depth superblock sharpness : ℕ) → 0 < j → At ls 0 (Frame width height layout depth superblock sharpness)
       → (k .state .width ≡ width) × (k .state .height ≡ height) × (k .state .layout ≡ layout)
   -- the first 64 values that `levels` leaves
   pub values : (columns rows u v : ℕ) (before after : List ℕ) → 1 < j → At ls 1 (Level columns rows u v)
       → LevelsAnswer (k .state .layout) (bases columns rows u v) 0 before after → k .values ≡ take 64 after
+  -- of any block, nothing that 6 or 7 refuses
+  pub room : (x y size tx chroma uvtx : ℕ) → 0 < j
+      → let b = blockOf (k .state) x y size tx chroma uvtx in
+      (¬ ContextsFault b (atBlock b (k .memory))) × (¬ LengthFault b (w4 b) (atBlock b (k .memory)))
 
 pub record Promises : Type 0 where
   pub form : (script : List ℕ) (l : ℕ) → Bytes script → Exactly (outputOf script ≡ formText l) (Formless (linesOf script) l)
@@ -67,7 +75,7 @@ pub record Promises : Type 0 where
   pub number : (script : List ℕ) (l n : ℕ) → Bytes script → Exactly (outputOf script ≡ refusedText l n) (Refused (linesOf script) l n)
   pub list : (script : List ℕ) → Bytes script → Exactly (outputOf script ≡ listOf (after start (linesOf script))) (Whole (linesOf script))
   pub ends : (script : List ℕ) → Bytes script → Ends (linesOf script)
-  -- 6 and 7 never come from a script: contexts are long enough and in range, levels and masks long enough
+  -- 6 and 7 never come from a script
   pub to-5 : (script : List ℕ) (l n : ℕ) → Bytes script → outputOf script ≡ refusedText l n → (1 ≤ n) × (n ≤ 5)
   pub keeps : (script : List ℕ) (j : ℕ) → Bytes script → j ≤ length (linesOf script) → ((i : ℕ) → i < j → Sound (linesOf script) i)
       → Keeps (linesOf script) j (after start (take j (linesOf script)))
