@@ -13,18 +13,11 @@ use Rattle.script.specs.declared.Line.the-variants.{Frame, Level, Block, Form}
 use Rattle.steps.specs.declared.State.{State}
 use Rattle.steps.specs.Steps.{form, Kept, kept, stateOf, counted, said, frameNumber, framed, bases, levelled, blockOf, atBlock, blocked, taken, stepOf}
 
--- a test of the number alone: what is kept has that number
-numbered : (n : ℕ) (x y : State) → x .number ≡ 0 → y .number ≡ n → cond (eqb n 0) x y .number ≡ n
-numbered n x y p q = go (eqb n 0) refl
+-- a test of the number n alone: what it chooses has the number n
+numbered : {A : Type 0} (f : A → ℕ) (n : ℕ) (x y : A) → f x ≡ 0 → f y ≡ n → f (cond (eqb n 0) x y) ≡ n
+numbered f n x y p q = go (eqb n 0) refl
   where
-    go : (b : Bool) → eqb n 0 ≡ b → cond b x y .number ≡ n
-    go true e = p ∙ sym (eqb-true n 0 e)
-    go false e = q
-
-numbered-kept : (n : ℕ) (x y : Kept) → x .state .number ≡ 0 → y .state .number ≡ n → cond (eqb n 0) x y .state .number ≡ n
-numbered-kept n x y p q = go (eqb n 0) refl
-  where
-    go : (b : Bool) → eqb n 0 ≡ b → cond b x y .state .number ≡ n
+    go : (b : Bool) → eqb n 0 ≡ b → f (cond b x y) ≡ n
     go true e = p ∙ sym (eqb-true n 0 e)
     go false e = q
 
@@ -45,7 +38,7 @@ module _ (k : Kept) (s : List ℕ) (z : k .state .number ≡ 0) where
 
     pub frame-number : k .state .phase ≡ 0 → stepOf k s .state .number ≡ frameNumber width height layout depth superblock sharpness
     unfolding framed
-    frame-number p = rw (step-is, e, eq-eqb (k .state .phase) 0 p) (numbered (frameNumber width height layout depth superblock sharpness) _ _ refl refl)
+    frame-number p = rw (step-is, e, eq-eqb (k .state .phase) 0 p) (numbered (λ (t : State). t .number) (frameNumber width height layout depth superblock sharpness) _ _ refl refl)
 
     pub frame-state : k .state .phase ≡ 0 → frameNumber width height layout depth superblock sharpness ≡ 0
         → stepOf k s .state ≡ stateOf (k .state .line + 1) 1 0 width height layout
@@ -58,7 +51,7 @@ module _ (k : Kept) (s : List ℕ) (z : k .state .number ≡ 0) where
 
     pub level-number : k .state .phase ≡ 1 → stepOf k s .state .number ≡ levelsNumber (k .state .layout) (bases columns rows u v)
     unfolding levelled
-    level-number p = rw (step-is, e, eq-eqb (k .state .phase) 1 p) (numbered-kept (levelsNumber (k .state .layout) (bases columns rows u v)) _ _ refl refl)
+    level-number p = rw (step-is, e, eq-eqb (k .state .phase) 1 p) (numbered (λ (m : Kept). m .state .number) (levelsNumber (k .state .layout) (bases columns rows u v)) _ _ refl refl)
 
     pub level-state : k .state .phase ≡ 1 → levelsNumber (k .state .layout) (bases columns rows u v) ≡ 0
         → stepOf k s .state ≡ stateOf (k .state .line + 1) 2 0 (k .state .width) (k .state .height) (k .state .layout)
@@ -79,7 +72,7 @@ module _ (k : Kept) (s : List ℕ) (z : k .state .number ≡ 0) where
     unfolding blocked
     block-number p =
         let b = blockOf (k .state) x y size tx chroma uvtx in
-        rw (step-is, e, eq-eqb (k .state .phase) 2 p) (numbered-kept (number b (w4 b) (atBlock b (k .memory))) _ _ z refl)
+        rw (step-is, e, eq-eqb (k .state .phase) 2 p) (numbered (λ (m : Kept). m .state .number) (number b (w4 b) (atBlock b (k .memory))) _ _ z refl)
 
     pub block-state : k .state .phase ≡ 2
         → (let b = blockOf (k .state) x y size tx chroma uvtx in number b (w4 b) (atBlock b (k .memory))) ≡ 0
