@@ -14,7 +14,7 @@ use Rattle.edges.specs.Edges.{unitsOf, classes, other, edgeBit}
 use Rattle.mask_edges.specs.Recording.{chromaBits}
 use Rattle.mask_edges.specs.Recording as recording
 use Rattle.block.specs.declared.Block.{Block}
-use Rattle.block.specs.Block.{w4, h4, ssx, ssy, bw4, bh4, cbw4, cbh4, seesLuma, seesChroma, Lent}
+use Rattle.block.specs.Block.{ssx, ssy, bw4, bh4, cbw4, cbh4, seesLuma, seesChroma, Lent}
 use Rattle.record.specs.Recorded.{edgeOf, inFrame, lumaBlock, chromaBlock, chromaEdge, lumaEdge, Stored}
 use Rattle.record.proofs.Answers as record-calls
 use Rattle.record.proofs.Sounds.{fitting}

@@ -1,6 +1,6 @@
--- The two examples: numbers and edges are computed, and what the frame holds is read off.
+-- The three examples: numbers and edges are computed, and what the frame holds is read off.
 use mathlib.Core.Path.{_≡_, refl}
-use mathlib.Core.Bool.{true}
+use mathlib.Core.Bool.{true, false}
 use mathlib.Core.List.{List, [], _∷_}
 use mathlib.Core.Option.{some, none}
 use Prim.Native.Nat.{ℕ, _-_, _%_, _<_}
@@ -15,21 +15,21 @@ use Rattle.plane.specs.Line.{columns, Piece}
 use Rattle.standard.specs.Sizes.{Num_4x4_Blocks_Wide, Num_4x4_Blocks_High, Tx_Wide, Tx_High}
 use Rattle.standard.specs.FilterSize.{filterSize, filterLen}
 use Rattle.standard.specs.Edge.{isTxEdge, isBlockEdge, applyFilter, edgeSize}
-use Rattle.units.specs.Memory.{lumaBit}
+use Rattle.units.specs.Memory.{lumaBit, chromaBit}
 use Rattle.units.specs.Sizes.{log2}
 use Rattle.edges.specs.Edges.{edge, edgeBit}
 use Rattle.mask_edges.specs.Folds.{blockEdge, stepEdges, gridPass, gridMasks}
 use Rattle.mask_edges.specs.Folds as folds
 use Rattle.block.specs.Block.{bw4, bh4, cbw4, cbh4, Lent, lent}
 use Rattle.block.specs.Tests.{number}
-use Rattle.record.specs.Record.{inRecord, RecordAnswer, lumaLevels, lumaMasks, lumaAbove, lumaLeft}
+use Rattle.record.specs.Record.{inRecord, RecordAnswer, lumaLevels, chromaLevels, lumaMasks, chromaMasks, lumaAbove, lumaLeft, chromaAbove, chromaLeft}
 use Rattle.correct.specs.Answer.{columnOf, CorrectAnswer}
 use Rattle.correct.specs.Correct.{cleared, corrected, correctLine, done}
 use Rattle.correct.specs.Tests as correct
 use Rattle.agree.specs.Legal.{Tells}
 use Rattle.covering.specs.Standard.{unitAt}
 use Rattle.recorded_edges.specs.Held.{gridIn, SeenIn, Holds, Told, standardEdge, widthIn}
-use Rattle.recorded_edges.specs.Example.{frameOf, codedAt, blockAt, lentWith, Beside, TileStart}
+use Rattle.recorded_edges.specs.Example.{frameOf, codedAt, blockAt, lentWith, Beside, TileStart, frameUv, codedUv, blockUv, lentUv, InChroma}
 
 -- what an accepted call leaves
 abbrev left : ℕ → ℕ → List ℕ → Lent
@@ -141,3 +141,57 @@ tile-start =
       recorded = recorded;
       corrected = corrected-now;
     }
+
+-- ---- chroma
+
+leftUv : Lent
+leftUv =
+    lent (chromaLevels blockUv 8 (replicate 64 0) (lumaLevels blockUv 8 (replicate 64 0) (lentUv .levels)))
+    (chromaMasks blockUv (lentUv .above-uv) (lentUv .left-uv) (lumaMasks blockUv [] (lentUv .above) (lentUv .left) (lentUv .masks)))
+    (lumaAbove blockUv [] (lentUv .above)) (lumaLeft blockUv [] (lentUv .left)) (chromaAbove blockUv (lentUv .above-uv)) (chromaLeft blockUv (lentUv .left-uv))
+
+uv-answer : RecordAnswer blockUv 8 (replicate 64 0) [] 0 lentUv leftUv
+unfolding leftUv number bw4 bh4 cbw4 cbh4 anyBelow Num_4x4_Blocks_Wide Num_4x4_Blocks_High Tx_Wide Tx_High
+uv-answer = record { code = refl; levels = refl; masks = refl; above = refl; left = refl; above-uv = refl; left-uv = refl }
+
+uv-holds : Holds frameUv 1 codedUv false blockUv []
+unfolding Num_4x4_Blocks_Wide Num_4x4_Blocks_High
+uv-holds =
+    record {
+      plane-is = refl;
+      right-ss = refl;
+      down-ss = refl;
+      row = refl;
+      col = refl;
+      size = refl;
+      intra = refl;
+      skip = refl;
+      legal = record {
+        code = omega arith;
+        across = record { sub = omega arith; multiple = refl; has = λ _ z. absurd (omega arith) };
+        down = record { sub = omega arith; multiple = refl; has = λ _ z. absurd (omega arith) };
+        covers = λ row col r c. (refl, refl, refl);
+      };
+      known = λ p s. refl;
+    }
+
+uv-tells : (y : ℕ) → y < 2 → Tells 1 0 1 (getD (1 ∷ 1 ∷ []) (y - 0) 0)
+unfolding Tx_Wide Tx_High
+uv-tells =
+    each-at 2 (λ y. Tells 1 0 1 (getD (1 ∷ 1 ∷ []) (y - 0) 0))
+    (record { code = omega arith; class = refl }, (record { code = omega arith; class = refl }, tt))
+
+uv-told : (p : Piece) → SeenIn false blockUv columns p → Told frameUv 1 false blockUv lentUv columns p
+unfolding cbh4 Num_4x4_Blocks_High
+uv-told p s e = uv-tells (p .1) (omega (arith, s .down))
+
+uv-standard : (y : ℕ) → y < 2 → standardEdge frameUv 1 columns (2, y) ≡ some 6
+unfolding applyFilter isTxEdge isBlockEdge edgeSize filterSize filterLen Num_4x4_Blocks_Wide Num_4x4_Blocks_High Tx_Wide Tx_High
+uv-standard = each-at 2 (λ y. standardEdge frameUv 1 columns (2, y) ≡ some 6) (refl, (refl, tt))
+
+uv-between : (y : ℕ) → y < 2 → widthIn 1 (edge (gridIn false blockUv) (leftUv .masks) columns (2, y)) ≡ some 6
+unfolding leftUv bw4 bh4 cbw4 cbh4 Num_4x4_Blocks_Wide Num_4x4_Blocks_High Tx_Wide Tx_High log2 inRecord gridMasks gridPass blockEdge stepEdges folds.edgeBit mark marks isSet hasBit bit edge edgeBit chromaBit
+uv-between = each-at 2 (λ y. widthIn 1 (edge (gridIn false blockUv) (leftUv .masks) columns (2, y)) ≡ some 6) (refl, (refl, tt))
+
+pub in-chroma : InChroma
+in-chroma = record { after = leftUv; answer = uv-answer; holds = uv-holds; told = uv-told; standard = uv-standard; between = uv-between }

@@ -25,17 +25,18 @@ use Rattle.correct.specs.declared.Start.{Start}
 use Rattle.correct.specs.Start.{gridAt, begin, first}
 use Rattle.correct.specs.Answer.{CorrectAnswer}
 use Rattle.correct.specs.Promises.{CorrectedUnit}
+use Rattle.correct.proofs.Told as told
 use Rattle.agree.specs.Legal.{Coded, Tells}
 use Rattle.agree.specs.Promises.{widthOf, start, Agrees}
 use Rattle.covering.specs.Standard.{unitAt, rowOf, colOf}
 use Rattle.drawn.specs.Owner.{At, Owns, sweepOf}
-use Rattle.drawn.proofs.Corrects.{corrected-edge}
+use Rattle.drawn.proofs.Corrects.{new-class}
 use Rattle.recorded_edges.specs.Held.{placeIn, gridIn, SeenIn, contextIn, Holds, Told, applies, standardEdge, stands, widthIn, greater, Stays}
 use Rattle.recorded_edges.specs.Promises.{Promises}
 use Rattle.recorded_edges.proofs.Highest.{highest-same, none-set, raised, highest-raised, raised-stands, width-raised}
 use Rattle.recorded_edges.proofs.Views.{blockIn, owned, its-at, own-bit, other-bit}
 use Rattle.recorded_edges.proofs.Agreed.{agrees, context-is, tells}
-use Rattle.recorded_edges.proofs.Examples.{beside, tile-start}
+use Rattle.recorded_edges.proofs.Examples.{beside, tile-start, in-chroma}
 
 -- ---- the edge of a unit of the frame
 
@@ -193,10 +194,12 @@ corrected : (D : Frame) (plane : ℕ) (C : Coded) (luma : Bool) (b : Block) (str
     → widthIn plane (edge (gridIn luma b) masks′ (passOf (r .rows)) p) ≡ standardEdge D plane (passOf (r .rows)) p
 corrected D plane C luma b stride values tm before after R H r context context-uv masks masks′ A begins E p unit s at clear high kept t =
     ap (λ (G : Grid). widthIn plane (edge G masks′ d p)) (sym E)
-    ∙ ap (widthIn plane) (corrected-edge r context context-uv masks masks′ A begins luma p unit c
+    ∙ ap (widthIn plane)
+    (told.promises .each r context context-uv 0 masks masks′ A .edges refl begins luma p unit
+    ∙ ap some (new-class r context context-uv masks masks′ A begins luma p c
     (subst (λ (G : Grid). c < classes G) (sym E) (low b stride values tm before after R luma d p s))
     (subst (λ (G : Grid). (i : ℕ) → i < classes G → isSet masks (edgeBit G d p i) ≡ eqb c i) (sym E)
-    (λ i h. kept i h ∙ alone b stride values tm before after R luma d p s D plane C H at clear high i h)))
+    (λ i h. kept i h ∙ alone b stride values tm before after R luma d p s D plane C H at clear high i h))))
     ∙ ap some (kept-class b stride values tm before after R luma d p s D plane C H at clear high (getD (cond luma context context-uv) (p .1 - first r luma) 0) t)
     ∙ whole b stride values tm before after R luma d p s D plane C H at clear high
   where
@@ -218,4 +221,5 @@ promises =
       corrected = corrected;
       beside = beside;
       tile-start = tile-start;
+      in-chroma = in-chroma;
     }

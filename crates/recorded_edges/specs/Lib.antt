@@ -1,5 +1,6 @@
--- a block of a call, beside the standard's frame; the edges of both
+-- A block of a call, beside the standard's frame; the edges of both
 pub mod Held
--- that they agree
+-- blocks that are held
 pub mod Example
+-- that the calls leave the standard's edges
 pub mod Promises

@@ -1,4 +1,6 @@
 -- What the calls that record and correct leave in the frame's masks is what the standard filters: of each plane, pass and unit.
+--   Adds         of an accepted call of `record_intra` or `record_inter`, whose block the standard's frame holds
+--   Promises     the promises, one a field
 use mathlib.Core.Bool.{Bool, true, cond, _||_}
 use mathlib.Core.List.{List}
 use mathlib.Core.Option.{none}
@@ -19,10 +21,9 @@ use Rattle.correct.specs.Promises.{CorrectedUnit}
 use Rattle.agree.specs.Legal.{Coded, Tells}
 use Rattle.agree.specs.Promises.{start}
 use Rattle.covering.specs.Standard.{unitAt}
-use Rattle.recorded_edges.specs.Example.{Beside, TileStart}
+use Rattle.recorded_edges.specs.Example.{Beside, TileStart, InChroma}
 use Rattle.recorded_edges.specs.Held.{placeIn, gridIn, SeenIn, contextIn, Holds, Told, applies, standardEdge, stands, widthIn, greater, Stays}
 
--- an accepted call of `record_intra` or `record_inter`, whose block the standard's frame holds
 pub record Adds (D : Frame) (plane : ℕ) (luma : Bool) (b : Block) (before after : Lent) : Type 0 where
   -- at a visible unit there is an edge exactly where applyFilter holds or one was before
   pub there : (d : Pass) (p : Piece) → SeenIn luma b d p
@@ -53,3 +54,4 @@ pub record Promises : Type 0 where
   -- blocks that meet the hypotheses, and the edges that they leave
   pub beside : Beside
   pub tile-start : TileStart
+  pub in-chroma : InChroma

@@ -1,0 +1,4 @@
+pub mod Keeps
+pub mod Recorded
+pub mod Examples
+pub mod Theorems

@@ -1,0 +1,15 @@
+-- The promises, proved: the gap rule over the whole frame is the one hypothesis of demand 3 that no call checks.
+use Rattle.frames.proofs.Theorems as frames
+use Rattle.kept.specs.Promises.{Promises}
+use Rattle.kept.proofs.Examples.{example}
+use Rattle.kept.proofs.Keeps.{recorded, eleven, all-keep, shape-of}
+
+pub promises : Promises
+promises =
+    record {
+      recorded = recorded;
+      eleven = λ f D n shaped. eleven f D shaped n;
+      boundaries = all-keep;
+      example = example;
+      demand = λ f D s a A. frames.promises .demand f s a (all-keep f D (shape-of f s a) A);
+    }

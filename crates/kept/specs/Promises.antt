@@ -1,0 +1,30 @@
+-- What holds of a frame whose masks hold the standard's edges of legal blocks.
+use mathlib.Core.Bool.{false}
+use mathlib.Core.List.{List}
+use mathlib.Core.Path.{_≡_}
+use Prim.Native.Nat.{ℕ}
+use Rattle.standard.specs.Edge as standard
+use Rattle.plane.specs.Line.{Pass}
+use Rattle.plane.specs.Three.{Three}
+use Rattle.gap.specs.Numbers.{gap}
+use Rattle.checks.specs.Call.{sb4, Shaped}
+use Rattle.frames.specs.Calls.{Frame, Accepted, BoundariesKept}
+use Rattle.frames.specs.Promises.{Demand}
+use Rattle.covering.specs.Standard.{Covered}
+use Rattle.drawn.specs.Run.{State, Seen, Tallies, OneTile}
+use Rattle.kept.specs.Holds.{unitsIn, Holds, AllHold}
+use Rattle.kept.specs.Example.{Example}
+
+pub record Promises : Type 0 where
+  -- a plane of one tile holds them once its blocks are recorded in order
+  pub recorded : (f : Frame) (D : standard.Frame) (n : ℕ) (l : List Seen) (s t : State) (start : ℕ) → Tallies D n (unitsIn f n)
+      → OneTile D n (unitsIn f n) l s t start → Covered D n → f .masks ≡ t .masks → Holds f D n
+  -- number 11 is not given for such a plane
+  pub eleven : (f : Frame) (D : standard.Frame) (n : ℕ) → Shaped (f .head) → Holds f D n → (d : Pass) (k : ℕ)
+      → gap (unitsIn f n) (f .masks) d (sb4 (f .head)) k ≡ false
+  -- edges on superblock boundaries keep the gap rule with what is above them, which no call looks at
+  pub boundaries : (f : Frame) (D : standard.Frame) → Shaped (f .head) → AllHold f D → BoundariesKept f
+  -- so that demand 3 asks no more than accepted calls
+  pub demand : (f : Frame) (D : standard.Frame) (s : Three (List ℕ)) → Accepted f s → AllHold f D → Demand f s
+  -- there is such a frame, whose masks two accepted calls have left
+  pub example : Example
