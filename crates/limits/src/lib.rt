@@ -83,24 +83,13 @@ pub fn limits(sharpness: u32) -> LimitAnswer
     }
 }
 
-fn filled(before: Av1FilterLUT, sharpness: u32) -> LimitAnswer
-    ensures { λ r. ⌜ LimitsLent sharpness (r .number) before (r .table) ⌝ }
-{
-    let a = limits(sharpness);
-    if a.number == 0 {
-        return a;
-    }
-    LimitAnswer {
-        number: a.number,
-        table: before,
-    }
-}
-
 pub fn calc_eih(lim_lut: &mut Av1FilterLUT, sharpness: u32) -> u32
     ensures { λ r. ⌜ LimitsLent sharpness r (now («lim_lut» .entry)) (now («lim_lut» .exit)) ⌝ }
 {
-    let a = filled(*lim_lut, sharpness);
-    *lim_lut = a.table;
+    let a = limits(sharpness);
+    if a.number == 0 {
+        *lim_lut = a.table;
+    }
     a.number
 }
 
