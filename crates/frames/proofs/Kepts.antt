@@ -117,7 +117,7 @@ module _ (c : Component) (t : Tables) (proper : Proper (gridOf c)) (size : Size 
         (λ k cls u e h.
         let i = in-frame c t rows (k * P .sb + u, v) cls e in
         keep .keeps rows k v (row-in-frame k u (c .h4 .0) (c .sb4 .0) (c .ssy) size (proper .ssy-le) (i .0)) (i .1))
-        (λ k a cls e n. b .keeps v k a cls e n)
+        (λ k a cls e n. let h = b .keeps v k a cls e n in search)
 
     gap : BoundariesKeep P → (d : Pass) (v : ℕ) → GapRule (λ u. P .edge d (u, v)) (Boundary P d) (end P d)
     gap b columns v = column-gap v

@@ -5,5 +5,5 @@ pub mod Regions
 pub mod Stays
 pub mod Planes
 pub mod Reach
+pub mod Witnesses
 pub mod Theorems
-pub mod Example

@@ -1,5 +1,5 @@
 -- The promises, proved: an accepted frame stays accepted, so each call is its pass over the three planes, and what holds of each plane holds of the calls.
-use mathlib.Core.Path.{_≡_, refl, sym, ap, _∙_}
+use mathlib.Core.Path.{_≡_, refl, sym, ap, _∙_, subst}
 use mathlib.Core.Bool.{cond}
 use mathlib.Core.List.{List}
 use mathlib.Core.Logic.{_≢_, by-cases}
@@ -18,9 +18,11 @@ use Rattle.filter.proofs.Sweeps as filter
 use Rattle.apply.specs.Apply.{FilterAnswer, passCall}
 use Rattle.frames.specs.Calls.{Frame, callAt, lentOf, answer, after, planes, sbRows, Accepted, BoundariesKept}
 use Rattle.frames.specs.Promises.{OneCall, Demand, Promises}
+use Rattle.frames.specs.Witness.{pass, Differ}
 use Rattle.frames.proofs.Sweeps.{sweeps-commute}
 use Rattle.frames.proofs.Stays.{sweepCall, after-done, after-refused, answers-stay}
 use Rattle.frames.proofs.Reach.{luma-reach, u-reach, v-reach}
+use Rattle.frames.proofs.Witnesses.{frame, start, accepted, kept, order-counts, witness}
 use Rattle.frames.proofs.Planes.{Sound, one-row, sound-luma, sound-u, sound-v}
 
 calls : (f : Frame) (d : Pass) (k : ℕ) (s t : Three (List ℕ)) (r : ℕ)
@@ -175,6 +177,13 @@ module _ (f : Frame) (s : Three (List ℕ)) (a : Accepted f s) (b : BoundariesKe
         ahead = λ k j h. ahead k j (omega arith);
       }
 
+-- ---- the witness, whose calls in turn leave what all columns and then all rows leave
+
+passes : Differ (pass frame columns (pass frame rows start)) (upTo (λ k t. after frame rows k (after frame columns k t)) (sbRows frame) start)
+passes =
+    subst (Differ (pass frame columns (pass frame rows start)))
+    (ap (after frame rows 1) (past frame (after frame columns 0 start) (stays-accepted frame start columns 0 accepted) kept 0 1 (omega arith))) order-counts
+
 pub promises : Promises
 promises =
     record {
@@ -184,4 +193,6 @@ promises =
       u-reach = λ f. u-reach f _ _ (omega arith) (omega arith);
       v-reach = λ f. v-reach f _ _ (omega arith) (omega arith);
       demand = demand;
+      witness = (frame, start, witness);
+      passes = passes;
     }

@@ -4,5 +4,7 @@ pub mod Whole
 pub mod Within
 -- the calls of a frame
 pub mod Calls
+-- a frame that they filter
+pub mod Witness
 -- what is promised of them
 pub mod Promises

@@ -15,6 +15,7 @@ use Rattle.order.specs.Demand3.{Demand3, allOf, Orders}
 use Rattle.apply.specs.Apply.{FilterAnswer}
 use Rattle.frames.specs.Within.{Within, Agree}
 use Rattle.frames.specs.Calls.{Frame, callAt, lentOf, answer, after, planes, sbRows, Accepted, BoundariesKept}
+use Rattle.frames.specs.Witness.{pass, Differ, Witness}
 
 -- an edge piece belongs to exactly one superblock row, and so to exactly one call of its pass
 pub record OneCall (f : Frame) (P : Plane) : Type 0 where
@@ -63,3 +64,8 @@ pub record Promises : Type 0 where
   pub v-reach : (f : Frame) → Reaches f (planes f .v) (λ s. s .v) 2 3
   -- and the order of the calls and of their pieces does not matter
   pub demand : (f : Frame) (s : Three (List ℕ)) → Accepted f s → BoundariesKept f → Demand f s
+  -- such frames there are, with edges about a boundary and samples that change
+  pub witness : (f : Frame) × (s : Three (List ℕ)) × Witness f s
+  -- and the order of the passes matters there: all rows before all columns leave other samples than the calls in turn
+  pub passes : let f = witness .0 in let s = witness .1 in
+      Differ (pass f columns (pass f rows s)) (upTo (λ k t. after f rows k (after f columns k t)) (sbRows f) s)
