@@ -29,8 +29,8 @@ use Rattle.example_frame.proofs.Orders.{listed, order}
 abbrev grid : ℕ → Grid
 grid n = gridOf (componentOf head n)
 
-abbrev pub Drawn : ℕ → Pass → ℕ → Type 0
-Drawn n d k = All (λ e. class (planeOf n) d (e .0) ≡ some (e .1)) (edgesOf n d k)
+abbrev pub Drawn : Pass → ℕ → ℕ → Type 0
+Drawn d n k = All (λ e. class (planeOf n) d (e .0) ≡ some (e .1)) (edgesOf n d k)
 
 -- in the three planes and two superblock rows
 abbrev pub Everywhere : (ℕ → ℕ → Type 0) → Type 0
@@ -39,7 +39,7 @@ Everywhere Q = Each 3 (λ n. Each 2 (Q n))
 pub everywhere : (Q : ℕ → ℕ → Type 0) → Everywhere Q → (n : ℕ) → n < 3 → (k : ℕ) → k < 2 → Q n k
 everywhere Q a n h k g = each-at 2 (Q n) (each-at 3 (λ n. Each 2 (Q n)) a n h) k g
 
-pub drawn : (d : Pass) → Everywhere (λ n k. Drawn n d k)
+pub drawn : (d : Pass) → Everywhere (Drawn d)
 unfolding masks bits marks mark edge edgeBit isSet hasBit lumaBit chromaBit
 drawn columns = (((refl, tt), ((refl, tt), tt)), (((refl, tt), ((refl, tt), tt)), (((refl, tt), ((refl, tt), tt)), tt)))
 drawn rows = (

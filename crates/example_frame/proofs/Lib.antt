@@ -1,3 +1,7 @@
+-- what a piece leaves at an index
+pub mod Places
+-- the frame's samples by their index
+pub mod Starts
 -- its calls answer 0
 pub mod Numbers
 -- a list of pieces is an order of a superblock row, as a test
@@ -6,7 +10,5 @@ pub mod Orders
 pub mod Above
 -- its edges
 pub mod Edges
--- what a piece leaves at an index
-pub mod Places
 -- its samples after each pass, in either order
 pub mod Samples

@@ -1,18 +1,14 @@
 -- The calls of the frame answer 0: numbers 2 to 8 and 10 to 12 by computing, 9 since no sample is above 122.
 use mathlib.Core.Path.{_≡_, refl, sym}
-use mathlib.Core.Bool.{Bool, true, false, cond, not, _&&_, _||_, and-false}
-use mathlib.Core.Logic.{by-cases}
-use mathlib.Core.List.{List}
-use Prim.Native.Nat.{ℕ, zero, suc, _+_, _-_, _*_, _%_, _^_, _≤_, _<_}
-use native.Mathlib.Decide.{decLt}
+use mathlib.Core.Bool.{Bool, true, false, cond, and-false}
+use Prim.Native.Nat.{ℕ, zero, suc, _*_, _%_, _^_, _≤_, _<_}
 use native.Mathlib.Omega.{arith}
-use lib.Dec.{eqb, ltb}
-use lib.ListN.{length, getD, replicate, List·getD-eq-default}
+use lib.Dec.{ltb}
+use lib.ListN.{length, getD, replicate}
 use borrow.Author.Tests.{le-ltb}
 use Rattle.loops.specs.Any.{anyBelow}
-use Rattle.loops.specs.Table.{tabulate}
 use Rattle.loops.proofs.Anys.{any-false}
-use Rattle.loops.proofs.Tables.{length-tabulate, getD-tabulate, each-at}
+use Rattle.loops.proofs.Tables.{each-at}
 use Rattle.bits.specs.Bit.{hasBit}
 use Rattle.bits.specs.Mark.{isSet, mark, marks, Words}
 use Rattle.bits.proofs.Marks.{words-marks}
@@ -25,6 +21,7 @@ use Rattle.gap.specs.Numbers.{gap, outside, badHalf, halfBit, part}
 use Rattle.checks.specs.Tests.{levelsBad, planeBad, planesBad, inside, given, marked, number}
 use Rattle.checks.proofs.Chain.{marked-number}
 use Rattle.example_frame.specs.Data.{call, bits, masks, levels, quarters, samplesOf, lent}
+use Rattle.example_frame.proofs.Starts.{start, start-tells}
 
 -- ---- no sample is too high
 
@@ -38,34 +35,20 @@ quarters-le w h i =
     cond-le (ltb i (w * h)) _ _ 122 (cond-le (ltb (i % w) 4) 100 90 122 (omega arith) (omega arith))
     (cond-le (ltb (i % w) 4) 110 122 122 (omega arith) (omega arith))
 
-low-at : (f : ℕ → ℕ) (n : ℕ) → ((i : ℕ) → f i ≤ 122) → (i : ℕ) → getD (tabulate f n) i 0 ≤ 122
-low-at f n h i =
-    by-cases (decLt i n) (λ l. rw (getD-tabulate f n i l) (h i))
-    (λ l. let e : getD (tabulate f n) i 0 ≡ 0 = List·getD-eq-default (tabulate f n) 0 (omega (arith, length-tabulate f n)) in omega arith)
-
-low : (n i : ℕ) → getD (samplesOf n) i 0 ≤ 122
-unfolding samplesOf
-low zero = low-at (quarters 128 64) 16384 (quarters-le 128 64)
-low (suc n) = low-at (quarters 64 32) 4096 (quarters-le 64 32)
+start-le : (n i : ℕ) → start n i ≤ 122
+start-le zero i = cond-le (ltb i 16384) _ _ 122 (quarters-le 128 64 i) (omega arith)
+start-le (suc n) i = cond-le (ltb i 4096) _ _ 122 (quarters-le 64 32 i) (omega arith)
 
 not-high : (n i : ℕ) → ltb 255 (getD (samplesOf n) i 0) ≡ false
-not-high n i = le-ltb 255 (getD (samplesOf n) i 0) (omega (arith, low n i))
+not-high n i = le-ltb 255 (getD (samplesOf n) i 0) (rw (start-tells n .at i) (omega (arith, start-le n i)))
 
 none-high : (n stride wide sb above k : ℕ) → samplesHigh (samplesOf n) stride 255 wide sb above k ≡ false
 unfolding samplesHigh
 none-high n stride wide sb above k = any-false _ _ (λ y _. any-false wide _ (λ x _. not-high n _))
 
-pub long-luma : length (samplesOf 0) ≡ 16384
-unfolding samplesOf
-long-luma = length-tabulate (quarters 128 64) 16384
-
-pub long-chroma : (n : ℕ) → length (samplesOf (suc n)) ≡ 4096
-unfolding samplesOf
-long-chroma n = length-tabulate (quarters 64 32) 4096
-
 planes-good : (r : Bool) (k : ℕ) → planesBad (call r k) lent ≡ false
 unfolding planeBad
-planes-good r k = rw (long-luma, long-chroma 0, long-chroma 1, none-high 0, none-high 1, none-high 2, and-false (inside (call r k))) refl
+planes-good r k = rw (start-tells 0 .long, start-tells 1 .long, start-tells 2 .long, none-high 0, none-high 1, none-high 2, and-false (inside (call r k))) refl
 
 -- ---- no number is given
 

@@ -8,7 +8,7 @@ use Prim.Native.Nat.{ℕ, suc, _*_, _<_}
 use lib.Dec.{eqb, leb, ltb}
 use borrow.Author.Tests.{leb-true, ltb-true, eqb-true, le-leb, lt-ltb, eq-eqb, not-true, not-false}
 use Rattle.loops.specs.Any.{anyBelow}
-use Rattle.loops.specs.Run.{All, Distinct, Once}
+use Rattle.loops.specs.Run.{All, Distinct}
 use Rattle.loops.proofs.Anys.{any-each}
 use Rattle.loops.proofs.Bools.{both-true, or-off}
 use Rattle.plane.specs.Line.{Pass, Piece}

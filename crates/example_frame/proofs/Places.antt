@@ -1,5 +1,5 @@
 -- What a piece leaves, as a function of the index: the samples of a plane need not be gone through, and a line that does not hold an index is not filtered to tell it.
-use mathlib.Core.Path.{_≡_, refl, sym, ap, _∙_}
+use mathlib.Core.Path.{_≡_, refl, ap, _∙_}
 use mathlib.Core.Bool.{Bool, true, false, cond, _&&_}
 use mathlib.Core.List.{List, [], _∷_}
 use mathlib.Core.Logic.{_≢_, by-cases}

@@ -1,19 +1,17 @@
 -- The samples after each pass at one place of each plane, the first past the corner where the areas meet, computed as a function of the index.
 use mathlib.Core.Path.{_≡_, refl, sym, ap, _∙_, subst⁻¹}
-use mathlib.Core.Bool.{Bool, true, cond, not}
+use mathlib.Core.Bool.{true, not}
 use mathlib.Core.List.{List, [], _∷_, map}
-use mathlib.Core.Logic.{by-cases}
 use Prim.Native.Nat.{ℕ, zero, suc, _+_, _*_, _<_}
 use mathlib.Core.Option.{some}
-use native.Mathlib.Decide.{decLt}
 use native.Mathlib.Omega.{arith}
-use lib.Dec.{eqb, leb, ltb}
-use lib.ListN.{length, getD, List·getD-eq-default}
-use borrow.Author.Tests.{leb-true, lt-ltb, le-ltb}
+use lib.Dec.{eqb, leb}
+use lib.ListN.{getD}
+use borrow.Author.Tests.{leb-true}
 use Rattle.loops.specs.Any.{anyBelow}
 use Rattle.loops.specs.Run.{run, All}
-use Rattle.loops.specs.Table.{tabulate, Each}
-use Rattle.loops.proofs.Tables.{length-tabulate, getD-tabulate, each-at}
+use Rattle.loops.specs.Table.{Each}
+use Rattle.loops.proofs.Tables.{each-at}
 use Rattle.plane.specs.Line.{Pass, columns, rows, Piece, ix, lineStep, sampleStep, pieceAt}
 use Rattle.plane.specs.Line as plane
 use Rattle.plane.specs.Plane.{class, act}
@@ -39,6 +37,7 @@ use Rattle.filter.proofs.Acts.{act-visit}
 use Rattle.checks.specs.Call.{strideOf}
 use Rattle.apply.specs.Apply.{componentOf, tablesOf}
 use Rattle.example_frame.specs.Data.{head, edgesOf, levels, limits, quarters, samplesOf, lent, planeOf}
+use Rattle.example_frame.proofs.Starts.{size, start, start-tells}
 use Rattle.example_frame.proofs.Edges.{Everywhere, everywhere, Drawn, drawn, piecesOf}
 use Rattle.example_frame.proofs.Places.{Tells, Sound, pieceOf, piece-tells}
 
@@ -69,11 +68,11 @@ act-is n d p cls e z l =
     (ap (λ t. pieceAt (lineStep d (strideOf head n)) (sampleStep d (strideOf head n)) (rule (lenOf (not (eqb n 0)) cls) t) (first n d p) l) bounds-are)
 
 -- that level, and samples enough before it
-abbrev Ready : Pass → ℕ → ℕ → Type 0
-Ready d n k =
-    All (λ e. (level n d (e .0) ≡ 32) × (leb (reads (lenOf (not (eqb n 0)) (e .1)) * sampleStep d (strideOf head n)) (first n d (e .0)) ≡ true)) (edgesOf n d k)
+abbrev Ready : ℕ → Pass → Piece × ℕ → Type 0
+Ready n d e =
+    (level n d (e .0) ≡ 32) × (leb (reads (lenOf (not (eqb n 0)) (e .1)) * sampleStep d (strideOf head n)) (first n d (e .0)) ≡ true)
 
-ready : (d : Pass) → Everywhere (Ready d)
+ready : (d : Pass) → Everywhere (λ n k. All (Ready n d) (edgesOf n d k))
 unfolding levels levelAt
 ready columns =
     ((((refl, refl), tt), (((refl, refl), tt), tt)), ((((refl, refl), tt), (((refl, refl), tt), tt)), ((((refl, refl), tt), (((refl, refl), tt), tt)), tt)))
@@ -85,28 +84,7 @@ ready rows = (
   ),
 )
 
--- ---- the samples as a function of the index
-
-abbrev size : ℕ → ℕ
-size zero = 16384
-size (suc n) = 4096
-
-abbrev start : ℕ → ℕ → ℕ
-start zero i = cond (ltb i 16384) (quarters 128 64 i) 0
-start (suc n) i = cond (ltb i 4096) (quarters 64 32 i) 0
-
-table-tells : (f : ℕ → ℕ) (n : ℕ) → Tells n (λ i. cond (ltb i n) (f i) 0) (tabulate f n)
-table-tells f n =
-    record {
-      long = length-tabulate f n;
-      at = λ i. by-cases (decLt i n) (λ l. rw (lt-ltb i n l) (getD-tabulate f n i l))
-          (λ l. rw (le-ltb i n (omega arith)) (List·getD-eq-default (tabulate f n) 0 (omega (arith, length-tabulate f n))));
-    }
-
-start-tells : (n : ℕ) → Tells (size n) (start n) (samplesOf n)
-unfolding samplesOf
-start-tells zero = table-tells (quarters 128 64) 16384
-start-tells (suc n) = table-tells (quarters 64 32) 4096
+-- ---- the edges of a pass, one after another
 
 abbrev runOf : ℕ → Pass → List (Piece × ℕ) → (ℕ → ℕ) → ℕ → ℕ
 runOf n d [] g = g
@@ -114,8 +92,7 @@ runOf n d (e ∷ es) g =
     runOf n d es (pieceOf (size n) (lineStep d (strideOf head n)) (sampleStep d (strideOf head n)) (ruleOf n (e .1)) (first n d (e .0)) g)
 
 run-tells : (n : ℕ) (d : Pass) (es : List (Piece × ℕ)) → All (λ e. class (planeOf n) d (e .0) ≡ some (e .1)) es
-    → All (λ e. (level n d (e .0) ≡ 32) × (leb (reads (lenOf (not (eqb n 0)) (e .1)) * sampleStep d (strideOf head n)) (first n d (e .0)) ≡ true)) es
-    → (g : ℕ → ℕ) (l : List ℕ) → Tells (size n) g l → Tells (size n) (runOf n d es g) (run (act (planeOf n) d) (map (λ e. e .0) es) l)
+    → All (Ready n d) es → (g : ℕ → ℕ) (l : List ℕ) → Tells (size n) g l → Tells (size n) (runOf n d es g) (run (act (planeOf n) d) (map (λ e. e .0) es) l)
 run-tells n d [] a b g l t = t
 run-tells n d (e ∷ es) a b g l t =
     let f = pieceOf (size n) (lineStep d (strideOf head n)) (sampleStep d (strideOf head n)) (ruleOf n (e .1)) (first n d (e .0)) g in
@@ -133,8 +110,8 @@ sweepOf n d g = runOf n d (edgesOf n d 1) (runOf n d (edgesOf n d 0) g)
 
 sweep-tells : (n : ℕ) → n < 3 → (d : Pass) (g : ℕ → ℕ) (l : List ℕ) → Tells (size n) g l → Tells (size n) (sweepOf n d g) (sweep n d l)
 sweep-tells n h d g l t =
-    let a = everywhere (λ n k. Drawn n d k) (drawn d) n h in
-    let b = everywhere (Ready d) (ready d) n h in
+    let a = everywhere (Drawn d) (drawn d) n h in
+    let b = everywhere (λ n k. All (Ready n d) (edgesOf n d k)) (ready d) n h in
     run-tells n d (edgesOf n d 1) (a 1 (omega arith)) (b 1 (omega arith)) _ _
     (run-tells n d (edgesOf n d 0) (a 0 (omega arith)) (b 0 (omega arith)) g l t)
 

@@ -1,7 +1,7 @@
 -- A small frame: 16 by 72 samples of 4:2:0 in superblocks of 64, so two superblock rows, and units 16 of luma and 8 of chroma on their boundary.
 --   call, head               its calls, and one of them
 --   edgesOf n d k            the edges of plane n in superblock row k, with their classes
---   masks, levels            the masks of those edges; level 32 everywhere
+--   bits, masks, levels      the bits of those edges, and the masks that have them; level 32 everywhere
 --   limits                   the limit table of sharpness 3
 --   quarters                 samples of four areas, which meet 4 samples from the left on the boundary; w samples a line, h lines above it
 --   samplesOf n, lent        those of plane n; and all that the calls are lent

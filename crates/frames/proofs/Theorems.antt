@@ -179,8 +179,8 @@ module _ (f : Frame) (s : Three (List ℕ)) (a : Accepted f s) (b : BoundariesKe
 
 -- ---- the witness, whose calls in turn leave what all columns and then all rows leave
 
-passes : Differ (pass frame columns (pass frame rows start)) (upTo (λ k t. after frame rows k (after frame columns k t)) (sbRows frame) start)
-passes =
+other-order : Differ (pass frame columns (pass frame rows start)) (upTo (λ k t. after frame rows k (after frame columns k t)) (sbRows frame) start)
+other-order =
     subst (Differ (pass frame columns (pass frame rows start)))
     (ap (after frame rows 1) (past frame (after frame columns 0 start) (stays-accepted frame start columns 0 accepted) kept 0 1 (omega arith))) order-counts
 
@@ -194,5 +194,5 @@ promises =
       v-reach = λ f. v-reach f _ _ (omega arith) (omega arith);
       demand = demand;
       witness = (frame, start, witness);
-      passes = passes;
+      other-order = other-order;
     }

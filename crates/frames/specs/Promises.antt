@@ -64,8 +64,8 @@ pub record Promises : Type 0 where
   pub v-reach : (f : Frame) → Reaches f (planes f .v) (λ s. s .v) 2 3
   -- and the order of the calls and of their pieces does not matter
   pub demand : (f : Frame) (s : Three (List ℕ)) → Accepted f s → BoundariesKept f → Demand f s
-  -- such frames there are, with edges about a boundary and samples that change
+  -- such frames there are: two superblock rows, edges on their boundary and beside it, and samples that each pass changes
   pub witness : (f : Frame) × (s : Three (List ℕ)) × Witness f s
-  -- and the order of the passes matters there: all rows before all columns leave other samples than the calls in turn
-  pub passes : let f = witness .0 in let s = witness .1 in
+  -- where the order of the passes counts: all rows before all columns leave other samples than the calls in turn
+  pub other-order : let f = witness .0 in let s = witness .1 in
       Differ (pass f columns (pass f rows s)) (upTo (λ k t. after f rows k (after f columns k t)) (sbRows f) s)
