@@ -1,8 +1,8 @@
 #!/usr/bin/env python3
 """Scripts for the edge listing, by name: all layouts and depths, odd sizes, blocks at w4 and h4, overlapping, missing and
 doubled blocks, every number that a script can be refused with, every shape of `form`, and each form that docs/01-scope.md
-leaves open (docs/DECISIONS.md). cases.py stdin, cases.py stdout: what crate replay_list reads, each script after its
-length, and what it must write, which is model.py's answer to each."""
+leaves open (docs/DECISIONS.md). cases.py stdin, cases.py stdout: what crate replay_list reads, each script in parts of
+several lengths, and what it must write, which is model.py's answer to each."""
 import sys
 from model import BLOCKS, TRANSFORMS, answer
 
@@ -33,6 +33,13 @@ def quarter(i):
 def size_of(length):
     """A size field that makes the block line so long."""
     return "block 0 0 " + "8" * (length - len("block 0 0  8x8 - I")) + " 8x8 - I"
+
+
+def past(length):
+    """Blocks on either side of so many bytes."""
+    yield from ["frame 256 256 400 8 64 0", LEVEL]
+    yield from [BLOCK] * ((length - 3500) // (len(BLOCK) + 1))
+    yield from [f"block {x} {y} 16x16 16x16 - I" for y in range(0, 64, 4) for x in range(0, 64, 4)]
 
 
 def layouts():
@@ -146,11 +153,23 @@ def cases():
         "open: a line too long": script(FRAME, LEVEL, size_of(65536)),
         "open: a line too long, no end": script(FRAME, LEVEL, size_of(70000))[:-1],
         "open: a long script": script(FRAME, LEVEL, *[BLOCK] * 4000),
+        "open: a script longer than its memory": script(*past(131072)),
     }
 
 
+def parts(script):
+    """The lengths of the parts that it is read in."""
+    if len(script) <= 4096:
+        return 65536, 1, 2, 7, 64
+    return [4096 if len(script) < 131072 else 65536]
+
+
+def framed(script):
+    words = [n.to_bytes(4, "little") for n in (*parts(script), len(script))]
+    return b"".join(word + words[-1] + script for word in words[:-1])
+
+
 if __name__ == "__main__":
-    framed = lambda s: len(s).to_bytes(4, "little") + s
     write = {"stdin": framed, "stdout": answer}[sys.argv[1]]
     for s in cases().values():
         sys.stdout.buffer.write(write(s))

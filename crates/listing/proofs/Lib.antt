@@ -1,7 +1,6 @@
 pub mod Lines
 pub mod Runs
 pub mod Takes
-pub mod Feeds
 pub mod Drawn
 pub mod Bounds
 pub mod Lefts

@@ -114,15 +114,15 @@ module _ (script : List ℕ) (k : Kept) (kept : k ≡ after start (linesOf scrip
   unfolding outputOf
   text-is = ap textOf kept
 
-  text-put : Put t 0 (textOf k) u n
-  text-put = texted .stored (subst (λ (m : Kept). Left (m .state)) (sym kept) (left script))
+  pub text-put : Put t 0 (outputOf script) u n
+  text-put = subst (λ (x : List ℕ). Put t 0 x u n) text-is (texted .stored (subst (λ (m : Kept). Left (m .state)) (sym kept) (left script)))
 
   list-long : n ≡ length (outputOf script)
-  list-long = omega (arith, text-put .next, ap length text-is)
+  list-long = omega (arith, text-put .next)
 
   pub listed : (before out : List ℕ) (e : ℕ) → n ≤ length before → Put before 0 (take n u) out e → ListAnswer script n before out
   listed before out e h q =
-      let x : take n u ≡ outputOf script = stored-text t (textOf k) u n text-put ∙ text-is in
+      let x = stored-text t (outputOf script) u n text-put in
       record { long = list-long; stored = q .stored ∙ ap (λ (l : List ℕ). pasted before 0 l) x ∙ simp (le-leb n (length before) h) }
 
   pub unlisted : (before : List ℕ) → length before < n → ListAnswer script n before before

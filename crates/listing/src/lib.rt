@@ -1,6 +1,4 @@
 // The edge listing: a script of bytes into an output of bytes.
-pub mod parts;
-
 use fields::end_of;
 use put_list::put_list;
 use steps::State;
@@ -23,10 +21,15 @@ const END: u8 = 10;
 
 const FORM: u32 = 13;
 
+// What the context bytes start at.
+pub const LUMA_START: u8 = 2;
+
+pub const CHROMA_START: u8 = 1;
+
 // The state after the lines taken, and where the rest begins.
-struct Rest {
-    state: State,
-    at: usize,
+pub struct Rest {
+    pub state: State,
+    pub at: usize,
 }
 
 // Before the first line.
@@ -43,7 +46,7 @@ pub fn start() -> State
     }
 }
 
-fn take_lines(
+pub fn take_lines(
     s: State,
     part: &[u8],
     values: &mut [u8; 64],
@@ -171,10 +174,10 @@ pub fn list(script: &[u8], out: &mut [u8]) -> usize
     let mut values = [0u8; 64];
     let mut levels = [0u8; 16384];
     let mut masks = [0u16; 2560];
-    let mut above = [2u8; 64];
-    let mut left = [2u8; 64];
-    let mut above_uv = [1u8; 64];
-    let mut left_uv = [1u8; 64];
+    let mut above = [LUMA_START; 64];
+    let mut left = [LUMA_START; 64];
+    let mut above_uv = [CHROMA_START; 64];
+    let mut left_uv = [CHROMA_START; 64];
     let s = run(
         start(),
         script,

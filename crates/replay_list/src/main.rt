@@ -1,8 +1,12 @@
-// Reads scripts, each after its length in four bytes, and writes the listing of each. `scripts/cases.py` makes the scripts.
+// Reads scripts, each after the length of its parts and its own length, in four bytes each. Lists each as it comes, in parts, and once more whole,
+// and says where the two differ. Of parts of 4,096 bytes and more it writes the listing too. `scripts/cases.py` makes the scripts.
 ghost use Rattle.io.specs.Counts.{Counts};
 ghost use Prim.Native.Nat.{_≤_};
 use libc::STDIN_FILENO;
 use libc::STDOUT_FILENO;
+use reading::listed;
+
+const WRITTEN: usize = 4096;
 
 fn least(n: usize, most: usize) -> usize
     ensures { λ r. ⌜ r ≤ most ⌝ }
@@ -16,31 +20,51 @@ fn bytes(n: usize, of: &[u8]) -> usize
     least(n, of.len())
 }
 
-fn write_listing(script: &[u8]) {
+// What a refused line left unread.
+fn read_rest(script: &mut [u8], read: usize, total: usize) {
+    if total <= script.len() {
+        if read < total {
+            io::read_full(STDIN_FILENO, &mut script[read..total]);
+        }
+    }
+}
+
+fn compare(script: &[u8], text: &[u8]) {
     let mut out = [0u8; 393255];
     let n = listing::list(script, &mut out);
     let m = bytes(n, &out);
-    io::write_all(STDOUT_FILENO, &out[..m]);
+    if !check::same(text, &out[..m]) {
+        io::write_all(STDOUT_FILENO, b"the listing of the whole script differs\n");
+    }
 }
 
-fn read(script: &mut [u8], n: usize) {
-    let m = bytes(n, script);
-    io::read_full(STDIN_FILENO, &mut script[..m]);
+// A script that fills its memory is not there whole.
+fn compare_whole(script: &[u8], total: usize, text: &[u8]) {
+    if total < script.len() {
+        let m = bytes(total, script);
+        compare(&script[..m], text);
+    }
 }
 
-fn listed(script: &mut [u8], n: usize) {
-    read(script, n);
-    let m = bytes(n, script);
-    write_listing(&script[..m]);
+fn list_in_parts(total: usize, most: usize) {
+    let mut script = [0u8; 131072];
+    let mut text = [0u8; 393255];
+    let r = listed(total, most, &mut script, &mut text);
+    read_rest(&mut script, r.read, total);
+    let n = r.stored;
+    if WRITTEN <= most {
+        io::write_all(STDOUT_FILENO, &text[..n]);
+    }
+    compare_whole(&script, total, &text[..n]);
 }
 
 fn replayed() -> bool {
-    let mut head = [0u8; 4];
-    if io::read_full(STDIN_FILENO, &mut head) < 4 {
+    let mut head = [0u8; 8];
+    if io::read_full(STDIN_FILENO, &mut head) < 8 {
         return false;
     }
-    let mut script = [0u8; 131072];
-    listed(&mut script, wire::u32_at(&head, 0) as usize);
+    let most = wire::u32_at(&head, 0) as usize;
+    list_in_parts(wire::u32_at(&head, 4) as usize, most);
     true
 }
 

@@ -3,9 +3,9 @@ use borrow.Author.Needs.{needs}
 use native.Mathlib.Omega.{arith}
 use mathlib.Core.Path.{_≡_}
 use Prim.Native.Nat.{_-_, _≤_}
-use Rattle.listing.proofs.Feeds.{Moving, moving-none, moving-step}
-use Rattle.listing.proofs.parts.move_to_front.Statement.{statement}
-use Rattle.listing.proofs.parts.move_to_front.Tie as tie
+use Rattle.reading.proofs.Moves.{Moving, moving-none, moving-step}
+use Rattle.reading.proofs.move_to_front.Statement.{statement}
+use Rattle.reading.proofs.move_to_front.Tie as tie
 
 abbrev Inv-loop : tie.InvT-loop
 Inv-loop buf₀ at n i₀ buf i = (i ≤ n) × Moving buf₀ at i buf
