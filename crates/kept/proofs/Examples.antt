@@ -1,7 +1,7 @@
--- The example meets the hypotheses: two blocks side by side cover its tile in order, in luma and in chroma; the rest is computed.
+-- The example meets the hypotheses: its two blocks are legal and cover the tile in order, so the calls draw it in luma and in chroma; the rest is computed.
 use mathlib.Core.Bool.{Bool, false, cond, false≢true}
-use mathlib.Core.List.{List, [], _∷_, List·Memᴰ·head, List·Memᴰ·tail}
-use mathlib.Core.Logic.{by-cases}
+use mathlib.Core.List.{List, List·Memᴰ·head, List·Memᴰ·tail}
+use mathlib.Core.Logic.{inl, by-cases}
 use mathlib.Core.Path.{_≡_, refl, ap, _∙_}
 use Prim.Native.Nat.{ℕ, zero, suc, _+_, _/_, _%_, _<_, _≤_}
 use native.Mathlib.Decide.{decLt}
@@ -9,6 +9,7 @@ use native.Mathlib.Omega.{arith}
 use lib.Dec.{ltb}
 use lib.ListN.{getD, replicate}
 use borrow.Author.Tests.{lt-ltb, le-ltb}
+use Rattle.loops.specs.Run.{All}
 use Rattle.loops.proofs.Tables.{each-at}
 use Rattle.bits.specs.Mark.{isSet}
 use Rattle.bits.proofs.Bits.{hasBit-nil}
@@ -17,63 +18,68 @@ use Rattle.standard.specs.Edge.{applyFilter, isTxEdge, isBlockEdge}
 use Rattle.plane.specs.Line.{Pass, columns, rows}
 use Rattle.units.specs.Sizes.{log2}
 use Rattle.edges.specs.Edges.{edgeBit}
-use Rattle.mask_edges.specs.Folds.{stores}
 use Rattle.mask_edges.proofs.Asks.{chroma-low}
 use Rattle.mask_edges.proofs.Tells.{luma-low}
 use Rattle.block.specs.Block.{bw4, bh4, cbw4, cbh4, Lent}
 use Rattle.agree.specs.Legal.{Legal, Shows}
 use Rattle.agree.proofs.Theorems as agree
-use Rattle.covering.specs.Front.{Part, Ordered, Tiled}
+use Rattle.covering.specs.Front.{Begins}
+use Rattle.covering.specs.Cover.{Axis, Placed}
 use Rattle.covering.specs.Standard.{Covered}
 use Rattle.drawn.specs.Calls.{atBlock, coded, lumaSeen, lumaState, lumaUnits, chromaSeen, chromaState, chromaUnitsOf}
-use Rattle.drawn.specs.Run.{Run, done, drawn, Tallies, InTile, wholeOf, OneTile}
-use Rattle.drawn.proofs.Theorems as drawn-calls
+use Rattle.drawn.specs.Run.{contextIn, Seen, Tallies, OneTile}
 use Rattle.frames.specs.Calls.{Frame}
+use Rattle.blocks.specs.Laid as blocks
+use Rattle.blocks.specs.Laid.{Calls, tileIn, Laid, LumaLegal, ChromaLegal}
+use Rattle.blocks.proofs.Theorems as laid-calls
 use Rattle.kept.specs.Holds.{Holds}
-use Rattle.kept.specs.Example.{decoded, call, clear, head, Example}
+use Rattle.kept.specs.Example.{decoded, call, clear, area, both, head, Example}
 use Rattle.kept.proofs.Keeps.{recorded}
 use Rattle.kept.proofs.Recorded.{between, after, first, second, words}
 
--- ---- two parts side by side
+-- ---- the blocks cover the tile
 
-module _ (w h : ℕ) (wide : 0 < w) (high : 0 < h) where
-  abbrev across : List Part
-  across = record { at = 0; across = w; from = 0; along = h } ∷ record { at = w; across = w; from = 0; along = h } ∷ []
+placed : (n last at : ℕ) → n ≡ 2 → at % 2 ≡ 0 → at + 2 ≤ last → (A : Axis) → A .first ≡ 0 → A .last ≡ last → Placed A at n
+unfolding log2
+placed n last at e m h A f g =
+    record {
+      side = rw e (record { power = refl; low = omega arith; high = omega arith });
+      multiple = rw e m;
+      begins = omega arith;
+      ends = inl (omega arith);
+    }
 
-  abbrev along : List Part
-  along = record { at = 0; across = h; from = 0; along = w } ∷ record { at = 0; across = h; from = w; along = w } ∷ []
-
-  across-order : Ordered across
-  across-order = ((λ j a b. omega arith, tt), (tt, tt))
-
-  along-order : Ordered along
-  along-order = ((λ j a b. absurd (omega (arith, a .last, b .first)), tt), (tt, tt))
-
-  across-tiled : Tiled (record { x0 = 0; x1 = w + w; y0 = 0; y1 = h }) across
-  across-tiled =
-      record {
-        sized = omega arith;
-        within = (
-          record { some = wide; left = omega arith; right = omega arith; top = omega arith; bottom = omega arith },
-          (record { some = wide; left = omega arith; right = omega arith; top = omega arith; bottom = omega arith }, tt),
-        );
-        every = λ u j a b c d. by-cases (decLt u w)
-            (λ l. (_, List·Memᴰ·head refl, record { line = record { first = omega arith; last = omega arith }; first = omega arith; last = omega arith }))
-            (λ l. (_, List·Memᴰ·tail (List·Memᴰ·head refl), record { line = record { first = omega arith; last = omega arith }; first = omega arith; last = omega arith }));
-      }
-
-  along-tiled : Tiled (record { x0 = 0; x1 = h; y0 = 0; y1 = w + w }) along
-  along-tiled =
-      record {
-        sized = omega arith;
-        within = (
-          record { some = high; left = omega arith; right = omega arith; top = omega arith; bottom = omega arith },
-          (record { some = high; left = omega arith; right = omega arith; top = omega arith; bottom = omega arith }, tt),
-        );
-        every = λ u j a b c d. by-cases (decLt j w)
-            (λ l. (_, List·Memᴰ·head refl, record { line = record { first = omega arith; last = omega arith }; first = omega arith; last = omega arith }))
-            (λ l. (_, List·Memᴰ·tail (List·Memᴰ·head refl), record { line = record { first = omega arith; last = omega arith }; first = omega arith; last = omega arith }));
-      }
+laid : (sx sy : ℕ) → sx ≤ 1 → sy ≤ 1 → Laid area sx sy both
+unfolding Num_4x4_Blocks_Wide Num_4x4_Blocks_High
+laid sx sy hx hy =
+    record {
+      sound = elim [
+        | columns ↦ record { sub = hx; first-even = refl; last-even = refl; mi-even = refl; some = omega arith; within = omega arith; up = omega arith; near = omega arith }
+        | rows ↦ record { sub = hy; first-even = refl; last-even = refl; mi-even = refl; some = omega arith; within = omega arith; up = omega arith; near = omega arith }
+      ];
+      covering = elim [
+        | columns ↦ record {
+          placed = (
+            (placed 2 4 0 refl refl (omega arith) _ refl refl, placed 2 2 0 refl refl (omega arith) _ refl refl),
+            ((placed 2 4 2 refl refl (omega arith) _ refl refl, placed 2 2 0 refl refl (omega arith) _ refl refl), tt),
+          );
+          order = ((λ j a b. omega arith, tt), (tt, tt));
+          every = λ u j a b. by-cases (decLt u 2)
+              (λ l. (_, List·Memᴰ·head refl, record { line = record { first = omega arith; last = omega arith }; first = omega arith; last = omega arith }))
+              (λ l. (_, List·Memᴰ·tail (List·Memᴰ·head refl), record { line = record { first = omega arith; last = omega arith }; first = omega arith; last = omega arith }));
+        }
+        | rows ↦ record {
+          placed = (
+            (placed 2 2 0 refl refl (omega arith) _ refl refl, placed 2 4 0 refl refl (omega arith) _ refl refl),
+            ((placed 2 2 0 refl refl (omega arith) _ refl refl, placed 2 4 2 refl refl (omega arith) _ refl refl), tt),
+          );
+          order = ((λ j a b. absurd (omega (arith, a .last, b .first)), tt), (tt, tt));
+          every = λ u j a b. by-cases (decLt j 2)
+              (λ l. (_, List·Memᴰ·head refl, record { line = record { first = omega arith; last = omega arith }; first = omega arith; last = omega arith }))
+              (λ l. (_, List·Memᴰ·tail (List·Memᴰ·head refl), record { line = record { first = omega arith; last = omega arith }; first = omega arith; last = omega arith }));
+        }
+      ];
+    }
 
 -- ---- the blocks are legal, and seen as they are
 
@@ -129,25 +135,21 @@ luma-second : (m : Lent) → Shows decoded 0 (coded (call 2 1 .block)) (lumaSeen
 unfolding bw4 Num_4x4_Blocks_Wide
 luma-second m = luma-shows 2 1 m refl (omega arith) (λ i h. ap (λ (b : Bool). cond b 0 1) (le-ltb (2 + i) 2 (omega arith)))
 
--- ---- the run of a plane
+luma-all : All (LumaLegal decoded area) both
+luma-all = (
+  record { w4-is = refl; h4-is = refl; legal = λ _. luma-legal 0 0 refl; shows = λ _. luma-first },
+  (record { w4-is = refl; h4-is = refl; legal = λ _. luma-legal 2 1 refl; shows = λ _. luma-second }, tt),
+)
 
-luma-run : Run decoded 0 (lumaUnits (call 0 0 .block)) (lumaSeen (call 0 0) clear ∷ lumaSeen (call 2 1) between ∷ []) (lumaState clear) (lumaState after)
-unfolding bw4 bh4 Num_4x4_Blocks_Wide Num_4x4_Blocks_High stores
-luma-run =
-    drawn _ _ _ (lumaState between) _
-    (drawn-calls.promises .luma decoded (call 0 0) 4 clear between first refl (luma-legal 0 0 refl) (luma-first clear) refl refl (omega arith) (omega arith))
-    (drawn _ _ _ (lumaState after) _
-    (drawn-calls.promises .luma decoded (call 2 1) 4 between after second refl (luma-legal 2 1 refl) (luma-second between) refl refl (omega arith) (omega arith))
-    (done _))
+chroma-all : All (ChromaLegal decoded 1 area 1 1) both
+unfolding Num_4x4_Blocks_Wide Num_4x4_Blocks_High cbw4
+chroma-all = (
+  record { w4-is = refl; h4-is = refl; sx-is = refl; sy-is = refl; has = refl; legal = λ _. chroma-legal 0 0 refl; shows = λ _ m. chroma-shows 0 0 m refl },
+  (record { w4-is = refl; h4-is = refl; sx-is = refl; sy-is = refl; has = refl; legal = λ _. chroma-legal 2 1 refl; shows = λ _ m. chroma-shows 2 1 m refl }, tt),
+)
 
-chroma-run : Run decoded 1 (chromaUnitsOf (call 0 0 .block)) (chromaSeen (call 0 0) clear ∷ chromaSeen (call 2 1) between ∷ []) (chromaState clear) (chromaState after)
-unfolding cbw4 cbh4 Num_4x4_Blocks_Wide Num_4x4_Blocks_High stores
-chroma-run =
-    drawn _ _ _ (chromaState between) _
-    (drawn-calls.promises .chroma decoded 1 (call 0 0) 4 clear between first refl (chroma-legal 0 0 refl) (chroma-shows 0 0 clear refl) refl refl (omega arith) (omega arith))
-    (drawn _ _ _ (chromaState after) _
-    (drawn-calls.promises .chroma decoded 1 (call 2 1) 4 between after second refl (chroma-legal 2 1 refl) (chroma-shows 2 1 between refl) refl refl (omega arith) (omega arith))
-    (done _))
+went : Calls 4 both clear after
+went = blocks.call _ _ _ between _ first (blocks.call _ _ _ after _ second (blocks.done _))
 
 -- ---- the tile
 
@@ -165,51 +167,25 @@ same-at k zero i h = absurd (omega arith)
 same-at k (suc n) zero h = refl
 same-at k (suc n) (suc i) h = same-at k n i (omega arith)
 
-luma-tile : (d : Pass) → InTile decoded 0 (lumaUnits (call 0 0 .block)) d (wholeOf (lumaUnits (call 0 0 .block)) d)
-    (lumaSeen (call 0 0) clear ∷ lumaSeen (call 2 1) between ∷ []) (lumaState clear) (lumaState after) 2
-unfolding bw4 bh4 Num_4x4_Blocks_Wide Num_4x4_Blocks_High
-luma-tile columns =
-    record {
-      run = luma-run;
-      most = λ n. omega (arith, luma-low n);
-      begins = λ j _ h. same-at 2 2 j h;
-      order = across-order 2 2 (omega arith) (omega arith);
-      tiled = across-tiled 2 2 (omega arith) (omega arith);
-    }
-luma-tile rows =
-    record {
-      run = luma-run;
-      most = λ n. omega (arith, luma-low n);
-      begins = λ j _ h. same-at 2 4 j h;
-      order = along-order 2 2 (omega arith) (omega arith);
-      tiled = along-tiled 2 2 (omega arith) (omega arith);
-    }
+luma-one : (l : List Seen) × OneTile decoded 0 (lumaUnits (call 0 0 .block)) l (lumaState clear) (lumaState after) 2
+luma-one =
+    let r = laid-calls.promises .luma decoded 4 area both clear after 2 refl refl went luma-all (laid 0 0 (omega arith) (omega arith))
+    (record { above = omega arith; left = omega arith }) (λ n. omega (arith, luma-low n)) begins in
+    (r .0, record { tile = elim [ columns ↦ r .1 columns | rows ↦ r .1 rows ]; clear = λ d p c _ _ _. no-bit (edgeBit (lumaUnits (call 0 0 .block)) d p c) })
+  where
+    begins : (d : Pass) → Begins 2 (tileIn area 0 0 d) (contextIn d (lumaState clear))
+    begins columns j _ h = same-at 2 2 j h
+    begins rows j _ h = same-at 2 4 j h
 
-chroma-tile : (d : Pass) → InTile decoded 1 (chromaUnitsOf (call 0 0 .block)) d (wholeOf (chromaUnitsOf (call 0 0 .block)) d)
-    (chromaSeen (call 0 0) clear ∷ chromaSeen (call 2 1) between ∷ []) (chromaState clear) (chromaState after) 1
-unfolding cbw4 cbh4 Num_4x4_Blocks_Wide Num_4x4_Blocks_High
-chroma-tile columns =
-    record {
-      run = chroma-run;
-      most = λ n. omega (arith, chroma-low n);
-      begins = λ j _ h. same-at 1 1 j h;
-      order = across-order 1 1 (omega arith) (omega arith);
-      tiled = across-tiled 1 1 (omega arith) (omega arith);
-    }
-chroma-tile rows =
-    record {
-      run = chroma-run;
-      most = λ n. omega (arith, chroma-low n);
-      begins = λ j _ h. same-at 1 2 j h;
-      order = along-order 1 1 (omega arith) (omega arith);
-      tiled = along-tiled 1 1 (omega arith) (omega arith);
-    }
-
-luma-one : OneTile decoded 0 (lumaUnits (call 0 0 .block)) (lumaSeen (call 0 0) clear ∷ lumaSeen (call 2 1) between ∷ []) (lumaState clear) (lumaState after) 2
-luma-one = record { tile = luma-tile; clear = λ d p c _ _ _. no-bit (edgeBit (lumaUnits (call 0 0 .block)) d p c) }
-
-chroma-one : OneTile decoded 1 (chromaUnitsOf (call 0 0 .block)) (chromaSeen (call 0 0) clear ∷ chromaSeen (call 2 1) between ∷ []) (chromaState clear) (chromaState after) 1
-chroma-one = record { tile = chroma-tile; clear = λ d p c _ _ _. no-bit (edgeBit (chromaUnitsOf (call 0 0 .block)) d p c) }
+chroma-one : (l : List Seen) × OneTile decoded 1 (chromaUnitsOf (call 0 0 .block)) l (chromaState clear) (chromaState after) 1
+chroma-one =
+    let r = laid-calls.promises .chroma decoded 1 4 area 1 1 both clear after 1 refl refl went chroma-all (laid 1 1 (omega arith) (omega arith))
+    (record { above = omega arith; left = omega arith }) (λ n. omega (arith, chroma-low n)) begins in
+    (r .0, record { tile = elim [ columns ↦ r .1 columns | rows ↦ r .1 rows ]; clear = λ d p c _ _ _. no-bit (edgeBit (chromaUnitsOf (call 0 0 .block)) d p c) })
+  where
+    begins : (d : Pass) → Begins 1 (tileIn area 1 1 d) (contextIn d (chromaState clear))
+    begins columns j _ h = same-at 1 1 j h
+    begins rows j _ h = same-at 1 2 j h
 
 -- ---- the frame
 
@@ -296,22 +272,21 @@ frame = record { head = head; limits = record { e = replicate 64 20; i = replica
 
 luma-holds : Holds frame decoded 0
 luma-holds =
-    recorded frame decoded 0 (lumaSeen (call 0 0) clear ∷ lumaSeen (call 2 1) between ∷ []) (lumaState clear) (lumaState after) 2
-    luma-tallies luma-one luma-covered refl
+    recorded frame decoded 0 (luma-one .0) (lumaState clear) (lumaState after) 2 luma-tallies (luma-one .1) luma-covered refl
 
 chroma-holds : Holds frame decoded 1
 chroma-holds =
-    recorded frame decoded 1 (chromaSeen (call 0 0) clear ∷ chromaSeen (call 2 1) between ∷ []) (chromaState clear) (chromaState after) 1
-    chroma-tallies chroma-one chroma-covered refl
+    recorded frame decoded 1 (chroma-one .0) (chromaState clear) (chromaState after) 1 chroma-tallies (chroma-one .1) chroma-covered refl
 
 pub example : Example
 unfolding Num_4x4_Blocks_Wide Num_4x4_Blocks_High Tx_Wide Tx_High applyFilter isTxEdge isBlockEdge log2
 example =
     record {
-      between = between;
       after = after;
-      first = first;
-      second = second;
+      calls = went;
+      laid = laid;
+      luma-legal = luma-all;
+      chroma-legal = chroma-all;
       luma = luma-one;
       chroma = chroma-one;
       frame = frame;

@@ -1,7 +1,7 @@
--- The example's two calls: that they are accepted is computed, and they leave what their contract says.
+-- The example's two calls: that they are accepted is computed, and that the masks they leave are words of 16 bits.
 use mathlib.Core.Bool.{Bool, true, _&&_, and-eq-true-iff}
 use mathlib.Core.List.{List, [], _∷_}
-use mathlib.Core.Path.{_≡_, refl, sym}
+use mathlib.Core.Path.{_≡_, refl}
 use Prim.Native.Nat.{ℕ, zero, suc, _^_}
 use native.Mathlib.Omega.{arith}
 use lib.Dec.{ltb}
@@ -14,46 +14,24 @@ use Rattle.bits.specs.Mark.{mark, marks, Words}
 use Rattle.mask_edges.specs.Folds.{stores, gridMasks, gridPass, blockEdge, stepEdges, edgeBit}
 use Rattle.block.specs.Block.{bw4, bh4, cbw4, cbh4, Lent}
 use Rattle.block.specs.Tests.{number}
-use Rattle.record.specs.Record.{fillLevels, fillRow, inRecord, lumaLevels, chromaLevels, lumaMasks, chromaMasks, lumaAbove, lumaLeft, chromaAbove, chromaLeft}
-use Rattle.drawn.specs.Calls.{atBlock, back, Call, Records}
+use Rattle.record.specs.Record.{fillLevels, fillRow, inRecord}
+use Rattle.drawn.specs.Calls.{Records}
+use Rattle.tiles.proofs.Calls.{next, records}
 use Rattle.kept.specs.Example.{call, clear}
 
--- what an accepted call leaves of what it is lent
-abbrev left : Call → Lent → Lent
-left q m =
-    record {
-      levels = chromaLevels (q .block) 4 (q .values) (lumaLevels (q .block) 4 (q .values) (m .levels));
-      masks = chromaMasks (q .block) (m .above-uv) (m .left-uv) (lumaMasks (q .block) (q .tx-masks) (m .above) (m .left) (m .masks));
-      above = lumaAbove (q .block) (q .tx-masks) (m .above);
-      left = lumaLeft (q .block) (q .tx-masks) (m .left);
-      above-uv = chromaAbove (q .block) (m .above-uv);
-      left-uv = chromaLeft (q .block) (m .left-uv);
-    }
-
-abbrev pub next : Call → Lent → Lent
-next q m = back (q .block) m (left q (atBlock (q .block) m))
-
-records : (q : Call) (m : Lent) → number (q .block) 4 (atBlock (q .block) m) ≡ 0 → Records 4 q m (next q m)
-records q m e =
-    record {
-      left-behind = left q (atBlock (q .block) m);
-      answer = record { code = sym e; levels = refl; masks = refl; above = refl; left = refl; above-uv = refl; left-uv = refl };
-      now-is = refl;
-    }
-
 abbrev pub between : Lent
-between = next (call 0 0) clear
+between = next 4 (call 0 0) clear
 
 abbrev pub after : Lent
-after = next (call 2 1) between
+after = next 4 (call 2 1) between
 
 pub first : Records 4 (call 0 0) clear between
 unfolding number anyBelow Num_4x4_Blocks_Wide Num_4x4_Blocks_High Tx_Wide Tx_High bw4 bh4 cbw4 cbh4
-first = records (call 0 0) clear refl
+first = records 4 (call 0 0) clear refl
 
 pub second : Records 4 (call 2 1) between after
 unfolding number anyBelow Num_4x4_Blocks_Wide Num_4x4_Blocks_High Tx_Wide Tx_High bw4 bh4 cbw4 cbh4 fillLevels fillRow inRecord gridMasks gridPass blockEdge stepEdges marks mark stores log2 levelAt edgeBit
-second = records (call 2 1) between refl
+second = records 4 (call 2 1) between refl
 
 -- ---- the masks are words of 16 bits
 

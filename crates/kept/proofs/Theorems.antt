@@ -1,5 +1,6 @@
 -- The promises, proved: the gap rule over the whole frame is the one hypothesis of demand 3 that no call checks.
 use Rattle.frames.proofs.Theorems as frames
+use Rattle.tiles.proofs.Theorems as tiles
 use Rattle.kept.specs.Promises.{Promises}
 use Rattle.kept.proofs.Examples.{example}
 use Rattle.kept.proofs.Keeps.{recorded, eleven, all-keep, shape-of}
@@ -8,6 +9,7 @@ pub promises : Promises
 promises =
     record {
       recorded = recorded;
+      in-tiles = λ f D n start ts l c m I K. record { tallies = I .tallies; covered = K; edges = tiles.promises .edges D n _ start ts l c m (f .masks) I };
       eleven = λ f D n shaped. eleven f D shaped n;
       boundaries = all-keep;
       example = example;

@@ -2,15 +2,18 @@
 --   decoded            the frame in the standard's words: in luma the first block has transforms of 4x4, the second one of 8x8; in chroma each has one of 4x4
 --   call x t           the call that records the block at the luma unit x, of luma transforms t
 --   clear              the memory before it: masks and levels of 0, contexts of the highest class
+--   area, both         its tile, and the two calls
 --   head               what the calls that filter the frame are given
---   Example            the two calls are accepted, one after the other, and a frame with the masks that they leave holds the standard's edges; some of them
+--   Example            the two calls are accepted, one after the other; their blocks are legal and cover the tile in order; a frame with the masks that they
+--                      leave holds the standard's edges, and some of them
 use mathlib.Core.Bool.{true, false, cond}
-use mathlib.Core.List.{[], _∷_}
+use mathlib.Core.List.{List, [], _∷_}
 use mathlib.Core.Option.{some, none}
 use mathlib.Core.Path.{_≡_}
-use Prim.Native.Nat.{ℕ}
+use Prim.Native.Nat.{ℕ, _≤_}
 use lib.Dec.{eqb, ltb}
 use lib.ListN.{replicate}
+use Rattle.loops.specs.Run.{All}
 use Rattle.standard.specs.Edge as standard
 use Rattle.plane.specs.Line.{columns, rows}
 use Rattle.edges.specs.Edges.{edge}
@@ -18,8 +21,9 @@ use Rattle.block.specs.Block.{Lent, lent}
 use Rattle.record.specs.Record.{intraOf}
 use Rattle.checks.specs.declared.Call as checks
 use Rattle.frames.specs.Calls.{Frame}
-use Rattle.drawn.specs.Calls.{Call, Records, lumaSeen, lumaState, lumaUnits, chromaSeen, chromaState, chromaUnitsOf}
-use Rattle.drawn.specs.Run.{OneTile}
+use Rattle.drawn.specs.Calls.{Call, lumaState, lumaUnits, chromaState, chromaUnitsOf}
+use Rattle.drawn.specs.Run.{Seen, OneTile}
+use Rattle.blocks.specs.Laid.{Calls, Area, Laid, LumaLegal, ChromaLegal}
 use Rattle.kept.specs.Holds.{unitsIn, AllHold}
 
 abbrev pub decoded : standard.Frame
@@ -58,13 +62,21 @@ head =
       pitch = 4;
     }
 
+-- the frame is one tile
+abbrev pub area : Area
+area = record { w4 = 4; h4 = 2; MiCols = 4; MiRows = 2; x0 = 0; x1 = 4; y0 = 0; y1 = 2 }
+
+abbrev pub both : List Call
+both = call 0 0 ∷ call 2 1 ∷ []
+
 pub record Example : Type 0 where
-  pub between : Lent
   pub after : Lent
-  pub first : Records 4 (call 0 0) clear between
-  pub second : Records 4 (call 2 1) between after
-  pub luma : OneTile decoded 0 (lumaUnits (call 0 0 .block)) (lumaSeen (call 0 0) clear ∷ lumaSeen (call 2 1) between ∷ []) (lumaState clear) (lumaState after) 2
-  pub chroma : OneTile decoded 1 (chromaUnitsOf (call 0 0 .block)) (chromaSeen (call 0 0) clear ∷ chromaSeen (call 2 1) between ∷ []) (chromaState clear) (chromaState after) 1
+  pub calls : Calls 4 both clear after
+  pub laid : (sx sy : ℕ) → sx ≤ 1 → sy ≤ 1 → Laid area sx sy both
+  pub luma-legal : All (LumaLegal decoded area) both
+  pub chroma-legal : All (ChromaLegal decoded 1 area 1 1) both
+  pub luma : (l : List Seen) × OneTile decoded 0 (lumaUnits (call 0 0 .block)) l (lumaState clear) (lumaState after) 2
+  pub chroma : (l : List Seen) × OneTile decoded 1 (chromaUnitsOf (call 0 0 .block)) l (chromaState clear) (chromaState after) 1
   pub frame : Frame
   pub head-is : frame .head ≡ head
   pub masks-are : frame .masks ≡ after .masks

@@ -10,8 +10,10 @@ use Rattle.gap.specs.Numbers.{gap}
 use Rattle.checks.specs.Call.{sb4, Shaped}
 use Rattle.frames.specs.Calls.{Frame, Accepted, BoundariesKept}
 use Rattle.frames.specs.Promises.{Demand}
+use Rattle.covering.specs.Front.{Tile}
 use Rattle.covering.specs.Standard.{Covered}
 use Rattle.drawn.specs.Run.{State, Seen, Tallies, OneTile}
+use Rattle.tiles.specs.Tiles.{Fix, InTiles}
 use Rattle.kept.specs.Holds.{unitsIn, Holds, AllHold}
 use Rattle.kept.specs.Example.{Example}
 
@@ -19,6 +21,9 @@ pub record Promises : Type 0 where
   -- a plane of one tile holds them once its blocks are recorded in order
   pub recorded : (f : Frame) (D : standard.Frame) (n : ℕ) (l : List Seen) (s t : State) (start : ℕ) → Tallies D n (unitsIn f n)
       → OneTile D n (unitsIn f n) l s t start → Covered D n → f .masks ≡ t .masks → Holds f D n
+  -- and so does one of several tiles, once their starts are corrected too
+  pub in-tiles : (f : Frame) (D : standard.Frame) (n : ℕ) (start : ℕ) (ts : List Tile) (l : List Fix) (clear drawn : List ℕ)
+      → InTiles D n (unitsIn f n) start ts l clear drawn (f .masks) → Covered D n → Holds f D n
   -- number 11 is not given for such a plane
   pub eleven : (f : Frame) (D : standard.Frame) (n : ℕ) → Shaped (f .head) → Holds f D n → (d : Pass) (k : ℕ)
       → gap (unitsIn f n) (f .masks) d (sb4 (f .head)) k ≡ false

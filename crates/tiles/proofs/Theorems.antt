@@ -1,82 +1,14 @@
--- The promises, proved: each unit has the bit of its edge alone, as its tile draws it or, at a tile's start, as its correction leaves it.
-use mathlib.Core.Bool.{Bool, false, _&&_, _||_}
-use mathlib.Core.List.{List}
-use mathlib.Core.Logic.{by-cases}
-use mathlib.Core.Path.{_≡_, refl, sym, ap, _∙_}
-use Prim.Native.Nat.{ℕ, _-_, _<_, min}
-use native.Mathlib.Decide.{decLt, ℕ-discrete}
-use native.Mathlib.Omega.{arith}
-use lib.Dec.{eqb}
-use borrow.Author.Tests.{eq-eqb, ne-eqb}
-use Rattle.bits.specs.Mark.{isSet}
-use Rattle.standard.specs.Edge.{Frame}
-use Rattle.plane.specs.Line.{Pass, Piece}
-use Rattle.edges.specs.Edges.{Grid, unitsOf, other, classes, edgeBit, edge}
-use Rattle.covering.specs.Front.{Tile}
-use Rattle.covering.specs.Standard.{sideAt, appliesAt, edgeIn}
-use Rattle.drawn.specs.Run.{Tallies, classIn, edgeClass, drawnClass}
-use Rattle.drawn.proofs.Frames.{eqb-turn, all-edges}
-use Rattle.tiles.specs.Tiles.{turned, In, Parted, Recorded, Fix, Corrected, AtStarts}
+-- The promises, proved.
 use Rattle.tiles.specs.Promises.{Promises}
 use Rattle.tiles.proofs.Joins.{start-applies, tiles-bit}
-use Rattle.tiles.proofs.Fixed.{never-stays, once-fixed}
-
-module _ (D : Frame) (plane : ℕ) (G : Grid) (start : ℕ) (ts : List Tile) (l : List Fix) (m n o : List ℕ) (A : Tallies D plane G) (P : Parted G ts)
-    (clear : (d : Pass) (p : Piece) (c : ℕ) → p .0 < unitsOf G d → p .1 < unitsOf G (other d) → c < classes G → isSet m (edgeBit G d p c) ≡ false) (R : Recorded D plane G start ts m n) (C : Corrected l n o)
-    (S : AtStarts D plane G ts l) where
-  module _ (d : Pass) (p : Piece) (px : p .0 < unitsOf G d) (py : p .1 < unitsOf G (other d)) where
-    abbrev on : Bool
-    on = appliesAt D plane d (p .1) (p .0)
-
-    abbrev own : ℕ
-    own = classIn D plane d (p .0) (p .1)
-
-    abbrev T : Tile
-    T = P .every d p px py .0
-
-    inside : In T d p
-    inside = P .every d p px py .2
-
-    drawn : (c : ℕ) → c < classes G → isSet n (edgeBit G d p c) ≡ (on && eqb (drawnClass D plane (turned d T) d p) c)
-    drawn c hc =
-        tiles-bit D plane G start d p c px py hc ts m n R (P .apart) T (P .every d p px py .1) inside
-        ∙ ap (λ (b : Bool). b || (on && eqb (drawnClass D plane (turned d T) d p) c)) (clear d p c px py hc)
-
-    -- no correction
-    as-drawn : ¬ ((p .0 ≡ turned d T .x0) × (0 < p .0)) → drawnClass D plane (turned d T) d p ≡ edgeClass D plane d p
-        → (c : ℕ) → c < classes G → isSet o (edgeBit G d p c) ≡ (on && eqb (edgeClass D plane d p) c)
-    as-drawn free e c hc =
-        never-stays G d p px py l n o C (S .frame) (S .rest d p px py T (P .every d p px py .1) inside free) c hc ∙ drawn c hc
-        ∙ ap (λ (k : ℕ). on && eqb k c) e
-
-    -- one
-    as-fixed : p .0 ≡ turned d T .x0 → 0 < p .0 → (c : ℕ) → c < classes G → isSet o (edgeBit G d p c) ≡ (on && eqb (edgeClass D plane d p) c)
-    as-fixed e past c hc =
-        let a = start-applies D plane G start d p ts m n R T (P .every d p px py .1) inside e in
-        once-fixed G d p px py l n o C (S .frame) (classIn D plane d (p .0 - 1) (p .1)) (S .starts d p px py T (P .every d p px py .1) inside e past)
-        own (A .low (sideAt D plane d (p .1) (p .0))) (λ k hk. drawn k hk ∙ rw (a, eq-eqb (p .0) (turned d T .x0) e) refl) c hc
-        ∙ eqb-turn c (edgeClass D plane d p) ∙ sym (ap (λ (b : Bool). b && eqb (edgeClass D plane d p) c) a)
-
-    bits : (c : ℕ) → c < classes G → isSet o (edgeBit G d p c) ≡ (on && eqb (edgeClass D plane d p) c)
-    bits =
-        by-cases (ℕ-discrete (p .0) (turned d T .x0))
-        (λ e. by-cases (decLt 0 (p .0)) (as-fixed e)
-        (λ z. as-drawn (λ q. z (q .1)) (rw (eq-eqb (p .0) (turned d T .x0) e) (first z))))
-        (λ e. as-drawn (λ q. e (q .0)) (rw (ne-eqb (p .0) (turned d T .x0) e) refl))
-      where
-        first : ¬ (0 < p .0) → own ≡ edgeClass D plane d p
-        first z =
-            let f : p .0 ≡ p .0 - 1 = omega arith in
-            let g : own ≡ min own own = omega arith in
-            g ∙ ap (λ (x : ℕ). min own (classIn D plane d x (p .1))) f
-
-  edges : (d : Pass) (p : Piece) → edge G o d p ≡ edgeIn D plane d (p .1) (p .0)
-  edges = all-edges D plane G A o bits
+use Rattle.tiles.proofs.Edges.{edges}
+use Rattle.tiles.proofs.Examples.{example}
 
 pub promises : Promises
 promises =
     record {
       join = λ D plane G start ts m n R a d p px py T h i c hc. tiles-bit D plane G start d p c px py hc ts m n R a T h i;
       at-start = λ D plane G start ts m n R d p T h i e. start-applies D plane G start d p ts m n R T h i e;
-      edges = λ D plane G start ts l m n o A P clear R C S. edges D plane G start ts l m n o A P clear R C S;
+      edges = edges;
+      example = example;
     }

@@ -1,5 +1,5 @@
 -- What holds of a frame of several tiles.
-use mathlib.Core.Bool.{true, false, _&&_, _||_}
+use mathlib.Core.Bool.{true, _&&_, _||_}
 use mathlib.Core.List.{List, List·Memᴰ}
 use mathlib.Core.Path.{_≡_}
 use Prim.Native.Nat.{ℕ, _<_}
@@ -10,8 +10,9 @@ use Rattle.plane.specs.Line.{Pass, Piece}
 use Rattle.edges.specs.Edges.{Grid, unitsOf, other, classes, edgeBit, edge}
 use Rattle.covering.specs.Front.{Tile}
 use Rattle.covering.specs.Standard.{appliesAt, edgeIn}
-use Rattle.drawn.specs.Run.{Tallies, drawnClass}
-use Rattle.tiles.specs.Tiles.{turned, In, AllApart, Parted, Recorded, Fix, Corrected, AtStarts}
+use Rattle.drawn.specs.Run.{drawnClass}
+use Rattle.tiles.specs.Example.{Example}
+use Rattle.tiles.specs.Tiles.{turned, In, AllApart, Recorded, Fix, InTiles}
 
 pub record Promises : Type 0 where
   -- tiles do not touch each other's units: after all of them, each unit has what its own tile draws
@@ -22,7 +23,7 @@ pub record Promises : Type 0 where
   pub at-start : (D : Frame) (plane : ℕ) (G : Grid) (start : ℕ) (ts : List Tile) (m n : List ℕ) → Recorded D plane G start ts m n
       → (d : Pass) (p : Piece) (T : Tile) → List·Memᴰ T ts → In T d p → p .0 ≡ turned d T .x0 → appliesAt D plane d (p .1) (p .0) ≡ true
   -- once the tiles' starts are corrected, the edge at each unit is 7.14.2's, of 7.14.3's class, and there is none outside the frame
-  pub edges : (D : Frame) (plane : ℕ) (G : Grid) (start : ℕ) (ts : List Tile) (l : List Fix) (m n o : List ℕ) → Tallies D plane G → Parted G ts
-      → ((d : Pass) (p : Piece) (c : ℕ) → p .0 < unitsOf G d → p .1 < unitsOf G (other d) → c < classes G → isSet m (edgeBit G d p c) ≡ false)
-      → Recorded D plane G start ts m n → Corrected l n o → AtStarts D plane G ts l
+  pub edges : (D : Frame) (plane : ℕ) (G : Grid) (start : ℕ) (ts : List Tile) (l : List Fix) (m n o : List ℕ) → InTiles D plane G start ts l m n o
       → (d : Pass) (p : Piece) → edge G o d p ≡ edgeIn D plane d (p .1) (p .0)
+  -- there is such a frame, recorded and corrected by accepted calls
+  pub example : Example

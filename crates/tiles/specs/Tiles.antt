@@ -13,23 +13,25 @@
 --   Once luma d p v l            one of l does, with the class v kept, and no other
 --   AtStarts D plane G ts l      the corrections l are those of a frame of tiles: each unit at a tile's start but unit 0 is corrected once, with the class of
 --                                the unit before it, and no other unit is
-use mathlib.Core.Bool.{Bool, cond}
+--   InTiles D plane G start ts l m n o     the masks o of a plane made so: from clear ones, m, over the tiles' blocks, n, and the corrections
+use mathlib.Core.Bool.{Bool, false, cond}
 use mathlib.Core.List.{List, [], _∷_, List·Memᴰ}
 use mathlib.Core.Logic.{_⊎_}
 use mathlib.Core.Path.{_≡_}
 use Prim.Native.Nat.{ℕ, _-_, _≤_, _<_}
 use lib.ListN.{getD}
 use Rattle.loops.specs.Run.{All}
+use Rattle.bits.specs.Mark.{isSet}
 use Rattle.standard.specs.Edge.{Frame}
 use Rattle.plane.specs.Line.{Pass, columns, rows, Piece}
-use Rattle.edges.specs.Edges.{Grid, unitsOf, other}
+use Rattle.edges.specs.Edges.{Grid, unitsOf, other, classes, edgeBit}
 use Rattle.edge_at.specs.Bit.{passOf}
 use Rattle.correct.specs.declared.Start.{Start}
 use Rattle.correct.specs.Start.{gridAt, begin, first}
 use Rattle.correct.specs.Answer.{CorrectAnswer}
 use Rattle.correct.specs.Promises.{CorrectedUnit}
 use Rattle.covering.specs.Front.{Tile}
-use Rattle.drawn.specs.Run.{State, Seen, InTile, classIn}
+use Rattle.drawn.specs.Run.{State, Seen, Tallies, InTile, classIn}
 
 -- ---- the tiles
 
@@ -89,3 +91,11 @@ pub record AtStarts (D : Frame) (plane : ℕ) (G : Grid) (ts : List Tile) (l : L
       → p .0 ≡ turned d T .x0 → 0 < p .0 → Once (G .isLuma) d p (classIn D plane d (p .0 - 1) (p .1)) l
   pub rest : (d : Pass) (p : Piece) → p .0 < unitsOf G d → p .1 < unitsOf G (other d) → (T : Tile) → List·Memᴰ T ts → In T d p
       → ¬ ((p .0 ≡ turned d T .x0) × (0 < p .0)) → Never (G .isLuma) d p l
+
+pub record InTiles (D : Frame) (plane : ℕ) (G : Grid) (start : ℕ) (ts : List Tile) (l : List Fix) (m n o : List ℕ) : Type 0 where
+  pub tallies : Tallies D plane G
+  pub parted : Parted G ts
+  pub clear : (d : Pass) (p : Piece) (c : ℕ) → p .0 < unitsOf G d → p .1 < unitsOf G (other d) → c < classes G → isSet m (edgeBit G d p c) ≡ false
+  pub recorded : Recorded D plane G start ts m n
+  pub corrected : Corrected l n o
+  pub starts : AtStarts D plane G ts l

@@ -1,0 +1,4 @@
+pub mod Runs
+pub mod Planes
+pub mod Wholes
+pub mod Theorems

@@ -1,0 +1,179 @@
+-- Luma and chroma are such planes: a call draws where it sees units, its part is what the plane shows of the block, and contexts keep their length.
+use mathlib.Core.Bool.{Bool, true, false, _&&_}
+use mathlib.Core.List.{List, _++_}
+use mathlib.Core.Path.{_≡_, refl, sym, ap, ap₂, _∙_, subst, subst₂}
+use Prim.Native.Nat.{ℕ, _+_, _-_, _*_, _/_, _%_, _^_, _≤_, min}
+use native.Mathlib.Nat.{div-add-mod'}
+use native.Mathlib.Omega.{arith}
+use lib.Dec.{ltb}
+use lib.ListN.{length, take, drop, length-append, take-append-drop}
+use Rattle.standard.specs.Edge.{Frame}
+use Rattle.plane.specs.Line.{Pass, columns, rows}
+use Rattle.units.specs.Units.{chromaUnit, chromaUnits}
+use Rattle.units.proofs.Places.{ss-hor-le, ss-ver-le}
+use Rattle.edges.specs.Edges.{Grid, lumaGrid, chromaGrid, other}
+use Rattle.block.specs.declared.Block.{Block}
+use Rattle.block.specs.Block.{w4, h4, wide, high, ssx, ssy, bw4, bh4, cbw4, cbh4, seesLuma, seesChroma, Lent}
+use Rattle.record.specs.Record.{Fitting}
+use Rattle.record.specs.Recorded.{Stored}
+use Rattle.record.proofs.Answers as record-calls
+use Rattle.record.proofs.Rooms.{luma-cut, chroma-cut}
+use Rattle.record.proofs.Sounds.{fitting}
+use Rattle.covering.specs.Cover.{owns, seen, part, sees}
+use Rattle.drawn.specs.Calls.{atBlock, Call, Records, lumaSeen, lumaState, chromaSeen, chromaState}
+use Rattle.drawn.specs.Run.{partIn, Draws, Same}
+use Rattle.drawn.proofs.Calls.{Shape, luma-shape, chroma-place-is}
+use Rattle.drawn.proofs.Theorems as drawn
+use Rattle.blocks.specs.Laid.{Area, axisOf, blockIn, LumaLegal, ChromaLegal, LumaLong, ChromaLong}
+
+and-turn : (a b : Bool) → (a && b) ≡ (b && a)
+and-turn true true = refl
+and-turn true false = refl
+and-turn false true = refl
+and-turn false false = refl
+
+-- a list with what follows `at` put anew
+put-long : (at : ℕ) (l a : List ℕ) → length a ≡ length (drop at l) → length (take at l ++ a) ≡ length l
+put-long at l a e =
+    length-append (take at l) a ∙ ap (λ (k : ℕ). length (take at l) + k) e ∙ sym (length-append (take at l) (drop at l)) ∙ ap length (take-append-drop at l)
+
+module _ (q : Call) (stride : ℕ) (m n : Lent) (R : Records stride q m n) where
+  abbrev b : Block
+  b = q .block
+
+  stored : Stored b stride (q .values) (q .tx-masks) (atBlock b m) (R .left-behind)
+  stored = record-calls.promises .each b stride (q .values) (q .tx-masks) 0 (atBlock b m) (R .left-behind) (R .answer) .accepted refl
+
+  fits : Fitting b
+  fits = fitting b stride (atBlock b m) (sym (R .answer .code))
+
+  above-long : length (n .above) ≡ length (m .above)
+  above-long = ap (λ (x : Lent). length (x .above)) (R .now-is) ∙ put-long (b .x .0) (m .above) (R .left-behind .above) (stored .above-long)
+
+  left-long : length (n .left) ≡ length (m .left)
+  left-long = ap (λ (x : Lent). length (x .left)) (R .now-is) ∙ put-long (b .y .0) (m .left) (R .left-behind .left) (stored .left-long)
+
+  above-uv-long : length (n .above-uv) ≡ length (m .above-uv)
+  above-uv-long = ap (λ (x : Lent). length (x .above-uv)) (R .now-is) ∙ put-long (chromaUnit (ssx b) (b .x .0)) (m .above-uv) (R .left-behind .above-uv) (stored .above-uv-long)
+
+  left-uv-long : length (n .left-uv) ≡ length (m .left-uv)
+  left-uv-long = ap (λ (x : Lent). length (x .left-uv)) (R .now-is) ∙ put-long (chromaUnit (ssy b) (b .y .0)) (m .left-uv) (R .left-behind .left-uv) (stored .left-uv-long)
+
+-- ---- luma
+
+module _ (D : Frame) (stride : ℕ) (A : Area) (sx : D .sx 0 ≡ 0) (sy : D .sy 0 ≡ 0) where
+  pub luma-draws : (q : Call) (m n : Lent) → Records stride q m n → LumaLegal D A q → LumaLong A m → seesLuma (q .block) ≡ true
+      → Draws D 0 (lumaGrid (A .w4) (A .h4)) (lumaSeen q m) (lumaState m) (lumaState n)
+  luma-draws q m n R o h e =
+      let c = luma-cut (q .block) (fits q stride m n R) e in
+      subst₂ (λ (x y : ℕ). Draws D 0 (lumaGrid x y) (lumaSeen q m) (lumaState m) (lumaState n)) (o .w4-is) (o .h4-is)
+      (drawn.promises .luma D q stride m n R e (o .legal e) (o .shows e m) sx sy (omega (arith, c .0, o .w4-is, h .above)) (omega (arith, c .1, o .h4-is, h .left)))
+
+  pub luma-same : (q : Call) (m n : Lent) → Records stride q m n → LumaLegal D A q → seesLuma (q .block) ≡ false → Same (lumaGrid (A .w4) (A .h4)) (lumaState m) (lumaState n)
+  luma-same q m n R o e =
+      subst₂ (λ (x y : ℕ). Same (lumaGrid x y) (lumaState m) (lumaState n)) (o .w4-is) (o .h4-is) (drawn.promises .luma-same q stride m n R e)
+
+  pub luma-stays : (q : Call) (m n : Lent) → Records stride q m n → LumaLegal D A q → LumaLong A m → LumaLong A n
+  luma-stays q m n R o h =
+      record { above = omega (arith, h .above, above-long q stride m n R); left = omega (arith, h .left, left-long q stride m n R) }
+
+  module _ (q : Call) (o : LumaLegal D A q) where
+    wide-is : seen (axisOf A 0 0 columns) (q .block .x .0) (wide (q .block)) ≡ bw4 (q .block)
+    unfolding bw4
+    wide-is = omega (arith, o .w4-is)
+
+    high-is : seen (axisOf A 0 0 rows) (q .block .y .0) (high (q .block)) ≡ bh4 (q .block)
+    unfolding bh4
+    high-is = omega (arith, o .h4-is)
+
+    pub luma-sees : (d : Pass) → sees (axisOf A 0 0 d) (axisOf A 0 0 (other d)) (blockIn d (q .block)) ≡ seesLuma (q .block)
+    luma-sees columns = ap₂ (λ (x y : ℕ). ltb 0 x && ltb 0 y) wide-is high-is
+    luma-sees rows = ap₂ (λ (x y : ℕ). ltb 0 x && ltb 0 y) high-is wide-is ∙ and-turn (ltb 0 (bh4 (q .block))) (ltb 0 (bw4 (q .block)))
+
+    pub luma-part : (m : Lent) (d : Pass) → partIn (lumaGrid (A .w4) (A .h4)) d (lumaSeen q m) ≡ part (axisOf A 0 0 d) (axisOf A 0 0 (other d)) (blockIn d (q .block))
+    luma-part m d = go d
+      where
+        S : Shape (lumaSeen q m .B) (q .block .x .0 % 32) (q .block .y .0 % 32) (bw4 (q .block)) (bh4 (q .block)) (atBlock (q .block) m .above) (atBlock (q .block) m .left)
+        S = luma-shape (q .block) (q .tx-masks) (atBlock (q .block) m)
+
+        x-is : q .block .x .0 / 32 * 32 + lumaSeen q m .B .bx4 ≡ chromaUnit 0 (q .block .x .0)
+        x-is = omega (arith, S .bx4-is, div-add-mod' (q .block .x .0) 32)
+
+        y-is : q .block .y .0 / 32 * 32 + lumaSeen q m .B .by4 ≡ chromaUnit 0 (q .block .y .0)
+        y-is = omega (arith, S .by4-is, div-add-mod' (q .block .y .0) 32)
+
+        w-is : lumaSeen q m .B .w4 ≡ seen (axisOf A 0 0 columns) (q .block .x .0) (wide (q .block))
+        w-is = S .w4-is ∙ sym wide-is
+
+        h-is : lumaSeen q m .B .h4 ≡ seen (axisOf A 0 0 rows) (q .block .y .0) (high (q .block))
+        h-is = S .h4-is ∙ sym high-is
+
+        go : (d : Pass) → partIn (lumaGrid (A .w4) (A .h4)) d (lumaSeen q m) ≡ part (axisOf A 0 0 d) (axisOf A 0 0 (other d)) (blockIn d (q .block))
+        go columns = λ i. record { at = x-is i; across = w-is i; from = y-is i; along = h-is i }
+        go rows = λ i. record { at = y-is i; across = h-is i; from = x-is i; along = w-is i }
+
+-- ---- chroma
+
+module _ (D : Frame) (plane stride : ℕ) (A : Area) (sx sy : ℕ) (dx : D .sx plane ≡ sx) (dy : D .sy plane ≡ sy) where
+  abbrev G : Grid
+  G = chromaGrid sx sy (A .w4) (A .h4)
+
+  -- the call's own units are the plane's
+  grid-is : (q : Call) → ChromaLegal D plane A sx sy q → chromaGrid (ssx (q .block)) (ssy (q .block)) (w4 (q .block)) (h4 (q .block)) ≡ G
+  grid-is q o = λ i. chromaGrid (o .sx-is i) (o .sy-is i) (o .w4-is i) (o .h4-is i)
+
+  cut : (ss n m : ℕ) (b c : ℕ) → ss ≡ b → n ≡ c → chromaUnits ss n ≤ m → chromaUnits b c ≤ m
+  cut ss n m b c e f h = subst₂ (λ (x y : ℕ). chromaUnits x y ≤ m) e f h
+
+  pub chroma-draws : (q : Call) (m n : Lent) → Records stride q m n → ChromaLegal D plane A sx sy q → ChromaLong A sx sy m → seesChroma (q .block) ≡ true
+      → Draws D plane G (chromaSeen q m) (chromaState m) (chromaState n)
+  chroma-draws q m n R o h e =
+      let c = chroma-cut (q .block) (fits q stride m n R) e in
+      let u = cut sx (A .w4) (length (m .above-uv)) (ssx (q .block)) (w4 (q .block)) (sym (o .sx-is)) (sym (o .w4-is)) (h .above) in
+      let v = cut sy (A .h4) (length (m .left-uv)) (ssy (q .block)) (h4 (q .block)) (sym (o .sy-is)) (sym (o .h4-is)) (h .left) in
+      subst (λ (H : Grid). Draws D plane H (chromaSeen q m) (chromaState m) (chromaState n)) (grid-is q o)
+      (drawn.promises .chroma D plane q stride m n R e (o .legal e) (o .shows e m) (dx ∙ sym (o .sx-is)) (dy ∙ sym (o .sy-is)) (omega (arith, c .0)) (omega (arith, c .1)))
+
+  pub chroma-same : (q : Call) (m n : Lent) → Records stride q m n → ChromaLegal D plane A sx sy q → seesChroma (q .block) ≡ false → Same G (chromaState m) (chromaState n)
+  chroma-same q m n R o e = subst (λ (H : Grid). Same H (chromaState m) (chromaState n)) (grid-is q o) (drawn.promises .chroma-same q stride m n R e)
+
+  pub chroma-stays : (q : Call) (m n : Lent) → Records stride q m n → ChromaLegal D plane A sx sy q → ChromaLong A sx sy m → ChromaLong A sx sy n
+  chroma-stays q m n R o h =
+      record { above = omega (arith, h .above, above-uv-long q stride m n R); left = omega (arith, h .left, left-uv-long q stride m n R) }
+
+  module _ (q : Call) (o : ChromaLegal D plane A sx sy q) where
+    wide-seen : seen (axisOf A sx sy columns) (q .block .x .0) (wide (q .block)) ≡ cbw4 (q .block)
+    unfolding cbw4
+    wide-seen = ap₂ (λ (s w : ℕ). min (chromaUnits s w - chromaUnit s (q .block .x .0)) (chromaUnits s (wide (q .block)))) (sym (o .sx-is)) (sym (o .w4-is))
+
+    high-seen : seen (axisOf A sx sy rows) (q .block .y .0) (high (q .block)) ≡ cbh4 (q .block)
+    unfolding cbh4
+    high-seen = ap₂ (λ (s w : ℕ). min (chromaUnits s w - chromaUnit s (q .block .y .0)) (chromaUnits s (high (q .block)))) (sym (o .sy-is)) (sym (o .h4-is))
+
+    pub chroma-sees : (d : Pass) → sees (axisOf A sx sy d) (axisOf A sx sy (other d)) (blockIn d (q .block)) ≡ seesChroma (q .block)
+    chroma-sees columns = ap₂ _&&_ (sym (o .has)) (ap₂ (λ (x y : ℕ). ltb 0 x && ltb 0 y) wide-seen high-seen)
+    chroma-sees rows =
+        ap₂ _&&_ (and-turn (owns (axisOf A sx sy rows) (q .block .y .0) (high (q .block))) (owns (axisOf A sx sy columns) (q .block .x .0) (wide (q .block))) ∙ sym (o .has))
+        (ap₂ (λ (x y : ℕ). ltb 0 x && ltb 0 y) high-seen wide-seen ∙ and-turn (ltb 0 (cbh4 (q .block))) (ltb 0 (cbw4 (q .block))))
+
+    pub chroma-part : (m : Lent) (d : Pass) → partIn G d (chromaSeen q m) ≡ part (axisOf A sx sy d) (axisOf A sx sy (other d)) (blockIn d (q .block))
+    chroma-part m d = go d
+      where
+        at-is : (u ss s : ℕ) → ss ≡ s → ss ≤ 1 → u / 32 * (32 / 2 ^ s) + chromaUnit ss (u % 32) ≡ chromaUnit s u
+        at-is u ss s e h = subst (λ (k : ℕ). u / 32 * (32 / 2 ^ k) + chromaUnit ss (u % 32) ≡ chromaUnit k u) e (chroma-place-is u ss h)
+
+        x-is : q .block .x .0 / 32 * (32 / 2 ^ sx) + chromaSeen q m .B .bx4 ≡ chromaUnit sx (q .block .x .0)
+        x-is = at-is (q .block .x .0) (ssx (q .block)) sx (o .sx-is) (ss-hor-le (q .block .layout))
+
+        y-is : q .block .y .0 / 32 * (32 / 2 ^ sy) + chromaSeen q m .B .by4 ≡ chromaUnit sy (q .block .y .0)
+        y-is = at-is (q .block .y .0) (ssy (q .block)) sy (o .sy-is) (ss-ver-le (q .block .layout))
+
+        w-is : chromaSeen q m .B .w4 ≡ seen (axisOf A sx sy columns) (q .block .x .0) (wide (q .block))
+        w-is = sym wide-seen
+
+        h-is : chromaSeen q m .B .h4 ≡ seen (axisOf A sx sy rows) (q .block .y .0) (high (q .block))
+        h-is = sym high-seen
+
+        go : (d : Pass) → partIn G d (chromaSeen q m) ≡ part (axisOf A sx sy d) (axisOf A sx sy (other d)) (blockIn d (q .block))
+        go columns = λ i. record { at = x-is i; across = w-is i; from = y-is i; along = h-is i }
+        go rows = λ i. record { at = y-is i; across = h-is i; from = x-is i; along = w-is i }

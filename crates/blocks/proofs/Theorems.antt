@@ -1,0 +1,22 @@
+-- The promises, proved.
+use Rattle.edges.specs.Edges.{lumaGrid, chromaGrid}
+use Rattle.block.specs.Block.{seesLuma, seesChroma}
+use Rattle.drawn.specs.Calls.{lumaSeen, lumaState, chromaSeen, chromaState}
+use Rattle.blocks.specs.Laid.{LumaLegal, ChromaLegal, LumaLong, ChromaLong}
+use Rattle.blocks.specs.Promises.{Promises}
+use Rattle.blocks.proofs.Runs.{in-tile}
+use Rattle.blocks.proofs.Wholes.{whole-tile}
+use Rattle.blocks.proofs.Planes.{luma-draws, luma-same, luma-stays, luma-sees, luma-part, chroma-draws, chroma-same, chroma-stays, chroma-sees, chroma-part}
+
+pub promises : Promises
+promises =
+    record {
+      luma = λ D stride A l m n start sx sy c o L h most begins.
+          in-tile D 0 stride (lumaGrid (A .w4) (A .h4)) A 0 0 lumaState lumaSeen seesLuma (LumaLegal D A) (LumaLong A) (luma-draws D stride A sx sy)
+          (luma-same D stride A sx sy) (luma-stays D stride A sx sy) (luma-sees D stride A sx sy) (λ q k o. luma-part D stride A sx sy q o k) l m n start c o L h most begins;
+      chroma = λ D plane stride A sx sy l m n start dx dy c o L h most begins.
+          in-tile D plane stride (chromaGrid sx sy (A .w4) (A .h4)) A sx sy chromaState chromaSeen seesChroma (ChromaLegal D plane A sx sy) (ChromaLong A sx sy)
+          (chroma-draws D plane stride A sx sy dx dy) (chroma-same D plane stride A sx sy dx dy) (chroma-stays D plane stride A sx sy dx dy) (chroma-sees D plane stride A sx sy dx dy)
+          (λ q k o. chroma-part D plane stride A sx sy dx dy q o k) l m n start c o L h most begins;
+      whole = whole-tile;
+    }

@@ -1,0 +1,88 @@
+-- The blocks of a tile, recorded by a list of calls.
+--   Calls stride l m n       the calls l answer 0, one after another, and lead from the memory m to n
+--   Area                     a tile of a frame, in luma units: the frame's w4 and h4, MiCols and MiRows, and the tile from x0 to x1 and from y0 to y1
+--   axisOf A sx sy d         the direction across the pass d, in a plane of subsampling sx and sy
+--   tileIn A sx sy d         the visible tile in the plane, as the pass sees it
+--   Whole A                  the tile is the frame, rounded up to 8 samples
+--   blockIn d b, blocksIn    a block in luma units, uncut, as the pass sees it; those of a list of calls
+--   Laid A l                 the blocks of l cover the tile, in the standard's order as both passes see it
+--   LumaLegal D A q          the call's block is legal in luma, where some unit of it is seen
+--   ChromaLegal D plane A sx sy q     and in chroma, which it has exactly if some odd luma unit of the plane's lies in it (HasChroma)
+--   LumaLong, ChromaLong     the contexts of a memory reach along the frame
+use mathlib.Core.Bool.{true, _&&_}
+use mathlib.Core.List.{List, [], _∷_}
+use mathlib.Core.Path.{_≡_}
+use Prim.Native.Nat.{ℕ, _≤_}
+use lib.ListN.{length}
+use Rattle.standard.specs.Edge.{Frame}
+use Rattle.plane.specs.Line.{Pass, columns, rows}
+use Rattle.units.specs.Units.{chromaUnits}
+use Rattle.edges.specs.Edges.{other}
+use Rattle.block.specs.declared.Block.{Block}
+use Rattle.block.specs.Block.{w4, h4, wide, high, ssx, ssy, seesLuma, seesChroma, Lent}
+use Rattle.agree.specs.Legal.{Legal, Shows}
+use Rattle.covering.specs.Front.{Part, Tile}
+use Rattle.covering.specs.Cover.{Axis, Sound, owns, Covering, tileOf}
+use Rattle.drawn.specs.Calls.{Call, Records, coded, lumaSeen, chromaSeen}
+
+pub data Calls (stride : ℕ) : List Call → Lent → Lent → Type 0 where
+  done : (m : Lent) → Calls stride [] m m
+  call : (q : Call) (l : List Call) (m n o : Lent) → Records stride q m n → Calls stride l n o → Calls stride (q ∷ l) m o
+
+pub record Area : Type 0 where
+  pub w4 : ℕ
+  pub h4 : ℕ
+  pub MiCols : ℕ
+  pub MiRows : ℕ
+  pub x0 : ℕ
+  pub x1 : ℕ
+  pub y0 : ℕ
+  pub y1 : ℕ
+
+abbrev pub axisOf : Area → ℕ → ℕ → Pass → Axis
+axisOf A sx sy columns = record { ss = sx; all = A .w4; first = A .x0; last = A .x1; mi = A .MiCols }
+axisOf A sx sy rows = record { ss = sy; all = A .h4; first = A .y0; last = A .y1; mi = A .MiRows }
+
+abbrev pub tileIn : Area → ℕ → ℕ → Pass → Tile
+tileIn A sx sy d = tileOf (axisOf A sx sy d) (axisOf A sx sy (other d))
+
+pub record Whole (A : Area) : Type 0 where
+  pub left : A .x0 ≡ 0
+  pub top : A .y0 ≡ 0
+  pub right : A .x1 ≡ A .MiCols
+  pub bottom : A .y1 ≡ A .MiRows
+
+abbrev pub blockIn : Pass → Block → Part
+blockIn columns b = record { at = b .x .0; across = wide b; from = b .y .0; along = high b }
+blockIn rows b = record { at = b .y .0; across = high b; from = b .x .0; along = wide b }
+
+abbrev pub blocksIn : Pass → List Call → List Part
+blocksIn d [] = []
+blocksIn d (q ∷ l) = blockIn d (q .block) ∷ blocksIn d l
+
+pub record Laid (A : Area) (sx sy : ℕ) (l : List Call) : Type 0 where
+  pub sound : (d : Pass) → Sound (axisOf A sx sy d)
+  pub covering : (d : Pass) → Covering (axisOf A sx sy d) (axisOf A sx sy (other d)) (blocksIn d l)
+
+pub record LumaLegal (D : Frame) (A : Area) (q : Call) : Type 0 where
+  pub w4-is : w4 (q .block) ≡ A .w4
+  pub h4-is : h4 (q .block) ≡ A .h4
+  pub legal : seesLuma (q .block) ≡ true → Legal D 0 (coded (q .block))
+  pub shows : seesLuma (q .block) ≡ true → (m : Lent) → Shows D 0 (coded (q .block)) (lumaSeen q m .B)
+
+pub record ChromaLegal (D : Frame) (plane : ℕ) (A : Area) (sx sy : ℕ) (q : Call) : Type 0 where
+  pub w4-is : w4 (q .block) ≡ A .w4
+  pub h4-is : h4 (q .block) ≡ A .h4
+  pub sx-is : ssx (q .block) ≡ sx
+  pub sy-is : ssy (q .block) ≡ sy
+  pub has : q .block .chroma ≡ (owns (axisOf A sx sy columns) (q .block .x .0) (wide (q .block)) && owns (axisOf A sx sy rows) (q .block .y .0) (high (q .block)))
+  pub legal : seesChroma (q .block) ≡ true → Legal D plane (coded (q .block))
+  pub shows : seesChroma (q .block) ≡ true → (m : Lent) → Shows D plane (coded (q .block)) (chromaSeen q m .B)
+
+pub record LumaLong (A : Area) (m : Lent) : Type 0 where
+  pub above : A .w4 ≤ length (m .above)
+  pub left : A .h4 ≤ length (m .left)
+
+pub record ChromaLong (A : Area) (sx sy : ℕ) (m : Lent) : Type 0 where
+  pub above : chromaUnits sx (A .w4) ≤ length (m .above-uv)
+  pub left : chromaUnits sy (A .h4) ≤ length (m .left-uv)

@@ -1,0 +1,3 @@
+-- the calls for the blocks of a tile
+pub mod Laid
+pub mod Promises
