@@ -3,7 +3,7 @@ use mathlib.Core.List.{List, [], _∷_, _++_, append-assoc, append-nil}
 use mathlib.Core.Path.{_≡_, refl, sym, ap, ap₂, subst, _∙_}
 use Prim.Native.Nat.{ℕ, zero, suc, _+_, _-_, _<_, _≤_}
 use native.Mathlib.Omega.{arith}
-use lib.ListN.{length, take, drop, replicate, length-append, length-drop}
+use lib.ListN.{length, take, drop, replicate, length-append, length-take, length-drop}
 use lib.Seq.{take-nil, take-add, drop-drop, length-take-le}
 use Rattle.io.specs.Counts.{Counts}
 use Rattle.text.specs.Text.{Put}
@@ -57,6 +57,11 @@ room-made b at held c h f e =
 
 -- ---- a part
 
+pub lines-fit : (line at held read size gone n most : ℕ) (b : List ℕ) → Safe line at held read size → gone ≤ at → n ≤ most → read + most < 18446744073709551616
+    → line + length (rest (at - gone) (held - gone + n) b) < 18446744073709551616
+lines-fit line at held read size gone n most b safe g f h =
+    omega (arith, safe .lines, safe .part, length-take (held - gone + n - (at - gone)) (drop (at - gone) b))
+
 module _ (k : Kept) (at held read : ℕ) (b : List ℕ) (safe : Safe (k .state .line) at held read (length b)) (b₁ : List ℕ) (gone : ℕ) (long₁ : length b₁ ≡ length b)
     (roomy : Roomy b at held b₁ gone) (b₂ : List ℕ) (n most : ℕ) (long₂ : length b₂ ≡ length b₁)
     (got : (take (held - gone) b₂ ≡ take (held - gone) b₁) × (held - gone + n ≤ length b₁) × (n ≤ most)) where
@@ -69,6 +74,9 @@ module _ (k : Kept) (at held read : ℕ) (b : List ℕ) (safe : Safe (k .state .
   module _ (m : Kept) (j : ℕ) (taken : Taken k (rest (at - gone) (held - gone + n) b₂) m j) where
     taken-in : j ≤ held - gone + n - (at - gone)
     taken-in = omega (arith, taken .part, length-rest (at - gone) (held - gone + n) b₂ (omega (arith, got .1)))
+
+    pub at-fits : read + most < 18446744073709551616 → at - gone + j < 18446744073709551616
+    at-fits h = omega (arith, taken-in, safe .part, safe .fewer, roomy .less, got .2)
 
     module _ (start : Kept) (bytes : List ℕ) (g : Reads start bytes k at held read b) where
       new : List ℕ

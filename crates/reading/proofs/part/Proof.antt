@@ -2,9 +2,7 @@
 use borrow.Author.Needs.{needs}
 use native.Mathlib.Omega.{arith}
 use mathlib.Core.Path.{_∙_}
-use Prim.Native.Nat.{_+_, _-_}
-use lib.ListN.{drop, length-take}
-use Rattle.reading.proofs.Turns.{adds}
+use Rattle.reading.proofs.Turns.{lines-fit, at-fits, adds}
 use Rattle.reading.proofs.part.Statement.{statement}
 use Rattle.reading.proofs.part.Tie as tie
 
@@ -33,10 +31,10 @@ part-take-lines-end : tie.Need-part-take-lines-end
 part-take-lines-end c = search needs
 
 take-lines-requires : tie.Need-take-lines-requires
-take-lines-requires c κs = omega (arith, c .before .before .before .before .before .before .before .before .before .before .before .before .before .before .before .before .before .before .before .before .before .pre .0 .lines, c .before .before .before .before .before .before .before .before .before .before .before .before .before .before .before .before .before .before .before .before .before .pre .0 .part, c .before .before .before .before .before .before .before .before .before .before .before .before .before .before .before .before .before .before .before .before .before .pre .1, c .before .before .before .before .before .before .before .before .before .before .before .before .before .before .before .before .before .before .make-room .ensures .less, c .before .before .before .before .before .before .before .before .before .before .before .before .read-more .ensures .2, length-take (c .before .before .before .before .before .before .before .before .before .before .before .before .before .before .before .before .before .before .before .before .before .args .p .held - c .before .before .before .before .before .before .before .before .before .before .before .before .before .before .before .before .before .before .make-room .result + c .before .before .before .before .before .before .before .before .before .before .before .before .read-more .result .n - (c .before .before .before .before .before .before .before .before .before .before .before .before .before .before .before .before .before .before .before .before .before .args .p .at - c .before .before .before .before .before .before .before .before .before .before .before .before .before .before .before .before .before .before .make-room .result)) (drop (c .before .before .before .before .before .before .before .before .before .before .before .before .before .before .before .before .before .before .before .before .before .args .p .at - c .before .before .before .before .before .before .before .before .before .before .before .before .before .before .before .before .before .before .make-room .result) (c .before .before .before .before .before .before .before .before .before .before .before .before .read-more .last .0)))
+take-lines-requires c κs = lines-fit _ _ _ _ _ _ _ _ _ (c .before .before .before .before .before .before .before .before .before .before .before .before .before .before .before .before .before .before .before .before .before .pre .0) (c .before .before .before .before .before .before .before .before .before .before .before .before .before .before .before .before .before .before .make-room .ensures .less) (c .before .before .before .before .before .before .before .before .before .before .before .before .read-more .ensures .2) (c .before .before .before .before .before .before .before .before .before .before .before .before .before .before .before .before .before .before .before .before .before .pre .1)
 
 add-t23 : tie.Need-add-t23
-add-t23 c = record { fits = omega (arith, c .before .before .before .before .before .before .before .before .before .before .before .before .before .before .before .before .before .before .before .before .before .before .before .before .pre .0 .part, c .before .before .before .before .before .before .before .before .before .before .before .before .before .before .before .before .before .before .before .before .before .before .before .before .pre .0 .fewer, c .before .before .before .before .before .before .before .before .before .before .before .before .before .before .before .before .before .before .before .before .before .before .before .before .pre .1, c .before .before .take-lines .ensures .part, c .before .before .before .before .before .before .before .before .before .before .before .before .before .before .before .before .before .before .before .before .before .make-room .ensures .less, c .before .before .before .before .before .before .before .before .before .before .before .before .before .before .before .read-more .ensures .2, length-take (c .before .before .before .before .before .before .before .before .before .before .before .before .before .before .before .before .before .before .before .before .before .before .before .before .args .p .held - c .before .before .before .before .before .before .before .before .before .before .before .before .before .before .before .before .before .before .before .before .before .make-room .result + c .before .before .before .before .before .before .before .before .before .before .before .before .before .before .before .read-more .result .n - (c .before .before .before .before .before .before .before .before .before .before .before .before .before .before .before .before .before .before .before .before .before .before .before .before .args .p .at - c .before .before .before .before .before .before .before .before .before .before .before .before .before .before .before .before .before .before .before .before .before .make-room .result)) (drop (c .before .before .before .before .before .before .before .before .before .before .before .before .before .before .before .before .before .before .before .before .before .before .before .before .args .p .at - c .before .before .before .before .before .before .before .before .before .before .before .before .before .before .before .before .before .before .before .before .before .make-room .result) (c .before .before .before .before .before .before .before .before .before .before .before .before .before .before .before .read-more .last .0))) }
+add-t23 c = record { fits = at-fits _ _ _ _ _ (c .before .before .before .before .before .before .before .before .before .before .before .before .before .before .before .before .before .before .before .before .before .before .before .before .pre .0) (c .before .before .before .before .before .before .before .before .before .before .before .before .before .before .before .before .before .before .before .before .before .make-room .last .0) _ (c .before .before .before .before .before .before .before .before .before .before .before .before .before .before .before .before .before .before .before .before .before .make-room .kept .0) (c .before .before .before .before .before .before .before .before .before .before .before .before .before .before .before .before .before .before .before .before .before .make-room .ensures) _ _ _ (c .before .before .before .before .before .before .before .before .before .before .before .before .before .before .before .read-more .kept .0) (c .before .before .before .before .before .before .before .before .before .before .before .before .before .before .before .read-more .ensures) _ _ (c .before .before .take-lines .ensures) (c .before .before .before .before .before .before .before .before .before .before .before .before .before .before .before .before .before .before .before .before .before .before .before .before .pre .1) }
 
 add-t33 : tie.Need-add-t33
 add-t33 c = record { fits = omega (arith, c .before .before .before .before .before .before .before .before .before .before .before .before .before .before .before .before .before .before .before .before .before .before .before .before .before .before .pre .1, c .before .before .before .before .before .before .before .before .before .before .before .before .before .before .before .before .before .read-more .ensures .2) }
