@@ -1,5 +1,5 @@
 -- Luma and chroma are such planes: a call draws where it sees units, its part is what the plane shows of the block, and contexts keep their length.
-use mathlib.Core.Bool.{Bool, true, false, _&&_}
+use mathlib.Core.Bool.{Bool, true, false, cond, _&&_}
 use mathlib.Core.List.{List, _++_}
 use mathlib.Core.Path.{_≡_, refl, sym, ap, ap₂, _∙_, subst, subst₂}
 use Prim.Native.Nat.{ℕ, _+_, _-_, _*_, _/_, _%_, _^_, _≤_, min}
@@ -7,11 +7,14 @@ use native.Mathlib.Nat.{div-add-mod'}
 use native.Mathlib.Omega.{arith}
 use lib.Dec.{ltb}
 use lib.ListN.{length, take, drop, length-append, take-append-drop}
+use Rattle.standard.specs.Sizes.{Tx_Wide, Tx_High}
 use Rattle.standard.specs.Edge.{Frame}
 use Rattle.plane.specs.Line.{Pass, columns, rows}
 use Rattle.units.specs.Units.{chromaUnit, chromaUnits}
 use Rattle.units.proofs.Places.{ss-hor-le, ss-ver-le}
 use Rattle.edges.specs.Edges.{Grid, lumaGrid, chromaGrid, other}
+use Rattle.decomp.proofs.Tiles.{txAt-same}
+use Rattle.mask_edges.specs.Recording.{intraBlock, interBlock}
 use Rattle.block.specs.declared.Block.{Block}
 use Rattle.block.specs.Block.{w4, h4, wide, high, ssx, ssy, bw4, bh4, cbw4, cbh4, seesLuma, seesChroma, Lent}
 use Rattle.record.specs.Record.{Fitting}
@@ -19,9 +22,11 @@ use Rattle.record.specs.Recorded.{Stored}
 use Rattle.record.proofs.Answers as record-calls
 use Rattle.record.proofs.Rooms.{luma-cut, chroma-cut}
 use Rattle.record.proofs.Sounds.{fitting}
+use Rattle.covering.specs.Front.{Covers}
+use Rattle.covering.specs.Standard.{Lies}
 use Rattle.covering.specs.Cover.{owns, seen, part, sees}
-use Rattle.drawn.specs.Calls.{atBlock, Call, Records, lumaSeen, lumaState, chromaSeen, chromaState}
-use Rattle.drawn.specs.Run.{partIn, Draws, Same}
+use Rattle.drawn.specs.Calls.{atBlock, Call, Records, coded, lumaSeen, lumaState, chromaSeen, chromaState}
+use Rattle.drawn.specs.Run.{partIn, Draws, Same, Tallies}
 use Rattle.drawn.proofs.Calls.{Shape, luma-shape, chroma-place-is}
 use Rattle.drawn.proofs.Theorems as drawn
 use Rattle.blocks.specs.Laid.{Area, axisOf, blockIn, LumaLegal, ChromaLegal, LumaLong, ChromaLong}
@@ -61,13 +66,13 @@ module _ (q : Call) (stride : ℕ) (m n : Lent) (R : Records stride q m n) where
 
 -- ---- luma
 
-module _ (D : Frame) (stride : ℕ) (A : Area) (sx : D .sx 0 ≡ 0) (sy : D .sy 0 ≡ 0) where
+module _ (D : Frame) (stride : ℕ) (A : Area) (T : Tallies D 0 (lumaGrid (A .w4) (A .h4))) where
   pub luma-draws : (q : Call) (m n : Lent) → Records stride q m n → LumaLegal D A q → LumaLong A m → seesLuma (q .block) ≡ true
       → Draws D 0 (lumaGrid (A .w4) (A .h4)) (lumaSeen q m) (lumaState m) (lumaState n)
   luma-draws q m n R o h e =
       let c = luma-cut (q .block) (fits q stride m n R) e in
       subst₂ (λ (x y : ℕ). Draws D 0 (lumaGrid x y) (lumaSeen q m) (lumaState m) (lumaState n)) (o .w4-is) (o .h4-is)
-      (drawn.promises .luma D q stride m n R e (o .legal e) (o .shows e m) sx sy (omega (arith, c .0, o .w4-is, h .above)) (omega (arith, c .1, o .h4-is, h .left)))
+      (drawn.promises .luma D q stride m n R e (o .legal e) (o .shows e m) (T .right-ss) (T .down-ss) (omega (arith, c .0, o .w4-is, h .above)) (omega (arith, c .1, o .h4-is, h .left)))
 
   pub luma-same : (q : Call) (m n : Lent) → Records stride q m n → LumaLegal D A q → seesLuma (q .block) ≡ false → Same (lumaGrid (A .w4) (A .h4)) (lumaState m) (lumaState n)
   luma-same q m n R o e =
@@ -90,31 +95,57 @@ module _ (D : Frame) (stride : ℕ) (A : Area) (sx : D .sx 0 ≡ 0) (sy : D .sy 
     luma-sees columns = ap₂ (λ (x y : ℕ). ltb 0 x && ltb 0 y) wide-is high-is
     luma-sees rows = ap₂ (λ (x y : ℕ). ltb 0 x && ltb 0 y) high-is wide-is ∙ and-turn (ltb 0 (bh4 (q .block))) (ltb 0 (bw4 (q .block)))
 
-    pub luma-part : (m : Lent) (d : Pass) → partIn (lumaGrid (A .w4) (A .h4)) d (lumaSeen q m) ≡ part (axisOf A 0 0 d) (axisOf A 0 0 (other d)) (blockIn d (q .block))
-    luma-part m d = go d
-      where
-        S : Shape (lumaSeen q m .B) (q .block .x .0 % 32) (q .block .y .0 % 32) (bw4 (q .block)) (bh4 (q .block)) (atBlock (q .block) m .above) (atBlock (q .block) m .left)
-        S = luma-shape (q .block) (q .tx-masks) (atBlock (q .block) m)
+    module _ (m : Lent) where
+      -- its transforms
+      abbrev tx-of : Bool → ℕ → ℕ → ℕ
+      tx-of i =
+          cond i
+          (interBlock (q .block .y .0 % 32) (q .block .x .0 % 32) (bw4 (q .block)) (bh4 (q .block)) (q .block .skip) (q .block .tx) (q .tx-masks) (atBlock (q .block) m .above) (atBlock (q .block) m .left))
+          (intraBlock (q .block .y .0 % 32) (q .block .x .0 % 32) (bw4 (q .block)) (bh4 (q .block)) (q .block .tx) (atBlock (q .block) m .above) (atBlock (q .block) m .left)) .tx
 
-        x-is : q .block .x .0 / 32 * 32 + lumaSeen q m .B .bx4 ≡ chromaUnit 0 (q .block .x .0)
-        x-is = omega (arith, S .bx4-is, div-add-mod' (q .block .x .0) 32)
+      S : Shape (lumaSeen q m .B) (q .block .x .0 % 32) (q .block .y .0 % 32) (bw4 (q .block)) (bh4 (q .block)) (atBlock (q .block) m .above) (atBlock (q .block) m .left)
+      S = luma-shape (q .block) (q .tx-masks) (atBlock (q .block) m)
 
-        y-is : q .block .y .0 / 32 * 32 + lumaSeen q m .B .by4 ≡ chromaUnit 0 (q .block .y .0)
-        y-is = omega (arith, S .by4-is, div-add-mod' (q .block .y .0) 32)
+      x-is : q .block .x .0 / 32 * 32 + lumaSeen q m .B .bx4 ≡ chromaUnit 0 (q .block .x .0)
+      x-is = omega (arith, S .bx4-is, div-add-mod' (q .block .x .0) 32)
 
-        w-is : lumaSeen q m .B .w4 ≡ seen (axisOf A 0 0 columns) (q .block .x .0) (wide (q .block))
-        w-is = S .w4-is ∙ sym wide-is
+      y-is : q .block .y .0 / 32 * 32 + lumaSeen q m .B .by4 ≡ chromaUnit 0 (q .block .y .0)
+      y-is = omega (arith, S .by4-is, div-add-mod' (q .block .y .0) 32)
 
-        h-is : lumaSeen q m .B .h4 ≡ seen (axisOf A 0 0 rows) (q .block .y .0) (high (q .block))
-        h-is = S .h4-is ∙ sym high-is
+      w-is : lumaSeen q m .B .w4 ≡ seen (axisOf A 0 0 columns) (q .block .x .0) (wide (q .block))
+      w-is = S .w4-is ∙ sym wide-is
 
-        go : (d : Pass) → partIn (lumaGrid (A .w4) (A .h4)) d (lumaSeen q m) ≡ part (axisOf A 0 0 d) (axisOf A 0 0 (other d)) (blockIn d (q .block))
-        go columns = λ i. record { at = x-is i; across = w-is i; from = y-is i; along = h-is i }
-        go rows = λ i. record { at = y-is i; across = h-is i; from = x-is i; along = w-is i }
+      h-is : lumaSeen q m .B .h4 ≡ seen (axisOf A 0 0 rows) (q .block .y .0) (high (q .block))
+      h-is = S .h4-is ∙ sym high-is
+
+      pub luma-part : (d : Pass) → partIn (lumaGrid (A .w4) (A .h4)) d (lumaSeen q m) ≡ part (axisOf A 0 0 d) (axisOf A 0 0 (other d)) (blockIn d (q .block))
+      luma-part columns = λ i. record { at = x-is i; across = w-is i; from = y-is i; along = h-is i }
+      luma-part rows = λ i. record { at = y-is i; across = h-is i; from = x-is i; along = w-is i }
+
+      pub luma-lies : (n : Lent) → Records stride q m n → seesLuma (q .block) ≡ true → (x y : ℕ) → Covers (partIn (lumaGrid (A .w4) (A .h4)) columns (lumaSeen q m)) x y → Lies D 0 x y
+      luma-lies n R e x y v =
+          let zx = x-is ∙ ap (λ (s : ℕ). chromaUnit s (q .block .x .0)) (sym (T .right-ss)) in
+          let zy = y-is ∙ ap (λ (s : ℕ). chromaUnit s (q .block .y .0)) (sym (T .down-ss)) in
+          record {
+            C = coded (q .block);
+            B = lumaSeen q m .B;
+            legal = o .legal e;
+            shows = o .shows e m;
+            right-cut = w-is ∙ ap₂ (λ (s w : ℕ). min (chromaUnits s w - chromaUnit s (q .block .x .0)) (chromaUnits s (wide (q .block)))) (sym (T .right-ss)) (T .wide);
+            down-cut = h-is ∙ ap₂ (λ (s w : ℕ). min (chromaUnits s w - chromaUnit s (q .block .y .0)) (chromaUnits s (high (q .block)))) (sym (T .down-ss)) (T .high);
+            right-in = omega (arith, zx, v .first, v .last);
+            down-in = omega (arith, zy, v .line .first, v .line .last);
+            one = one-transform (q .block .inter);
+          }
+        where
+          one-transform : (i : Bool) (a b a′ b′ : ℕ)
+              → a / Tx_Wide (tx-of i a b) ≡ a′ / Tx_Wide (tx-of i a b) → b / Tx_High (tx-of i a b) ≡ b′ / Tx_High (tx-of i a b) → tx-of i a′ b′ ≡ tx-of i a b
+          one-transform true a b a′ b′ f g = txAt-same a b a′ b′ (q .tx-masks) (q .block .tx) (fits q stride m n R .tx) (f, g)
+          one-transform false a b a′ b′ f g = refl
 
 -- ---- chroma
 
-module _ (D : Frame) (plane stride : ℕ) (A : Area) (sx sy : ℕ) (dx : D .sx plane ≡ sx) (dy : D .sy plane ≡ sy) where
+module _ (D : Frame) (plane stride : ℕ) (A : Area) (sx sy : ℕ) (T : Tallies D plane (chromaGrid sx sy (A .w4) (A .h4))) where
   abbrev G : Grid
   G = chromaGrid sx sy (A .w4) (A .h4)
 
@@ -132,7 +163,7 @@ module _ (D : Frame) (plane stride : ℕ) (A : Area) (sx sy : ℕ) (dx : D .sx p
       let u = cut sx (A .w4) (length (m .above-uv)) (ssx (q .block)) (w4 (q .block)) (sym (o .sx-is)) (sym (o .w4-is)) (h .above) in
       let v = cut sy (A .h4) (length (m .left-uv)) (ssy (q .block)) (h4 (q .block)) (sym (o .sy-is)) (sym (o .h4-is)) (h .left) in
       subst (λ (H : Grid). Draws D plane H (chromaSeen q m) (chromaState m) (chromaState n)) (grid-is q o)
-      (drawn.promises .chroma D plane q stride m n R e (o .legal e) (o .shows e m) (dx ∙ sym (o .sx-is)) (dy ∙ sym (o .sy-is)) (omega (arith, c .0)) (omega (arith, c .1)))
+      (drawn.promises .chroma D plane q stride m n R e (o .legal e) (o .shows e m) (T .right-ss ∙ sym (o .sx-is)) (T .down-ss ∙ sym (o .sy-is)) (omega (arith, c .0)) (omega (arith, c .1)))
 
   pub chroma-same : (q : Call) (m n : Lent) → Records stride q m n → ChromaLegal D plane A sx sy q → seesChroma (q .block) ≡ false → Same G (chromaState m) (chromaState n)
   chroma-same q m n R o e = subst (λ (H : Grid). Same H (chromaState m) (chromaState n)) (grid-is q o) (drawn.promises .chroma-same q stride m n R e)
@@ -156,24 +187,37 @@ module _ (D : Frame) (plane stride : ℕ) (A : Area) (sx sy : ℕ) (dx : D .sx p
         ap₂ _&&_ (and-turn (owns (axisOf A sx sy rows) (q .block .y .0) (high (q .block))) (owns (axisOf A sx sy columns) (q .block .x .0) (wide (q .block))) ∙ sym (o .has))
         (ap₂ (λ (x y : ℕ). ltb 0 x && ltb 0 y) high-seen wide-seen ∙ and-turn (ltb 0 (cbh4 (q .block))) (ltb 0 (cbw4 (q .block))))
 
+    at-is : (u ss s : ℕ) → ss ≡ s → ss ≤ 1 → u / 32 * (32 / 2 ^ s) + chromaUnit ss (u % 32) ≡ chromaUnit s u
+    at-is u ss s e h = subst (λ (k : ℕ). u / 32 * (32 / 2 ^ k) + chromaUnit ss (u % 32) ≡ chromaUnit k u) e (chroma-place-is u ss h)
+
+    chroma-x : q .block .x .0 / 32 * (32 / 2 ^ sx) + chromaUnit (ssx (q .block)) (q .block .x .0 % 32) ≡ chromaUnit sx (q .block .x .0)
+    chroma-x = at-is (q .block .x .0) (ssx (q .block)) sx (o .sx-is) (ss-hor-le (q .block .layout))
+
+    chroma-y : q .block .y .0 / 32 * (32 / 2 ^ sy) + chromaUnit (ssy (q .block)) (q .block .y .0 % 32) ≡ chromaUnit sy (q .block .y .0)
+    chroma-y = at-is (q .block .y .0) (ssy (q .block)) sy (o .sy-is) (ss-ver-le (q .block .layout))
+
+    chroma-w : cbw4 (q .block) ≡ seen (axisOf A sx sy columns) (q .block .x .0) (wide (q .block))
+    chroma-w = sym wide-seen
+
+    chroma-h : cbh4 (q .block) ≡ seen (axisOf A sx sy rows) (q .block .y .0) (high (q .block))
+    chroma-h = sym high-seen
+
     pub chroma-part : (m : Lent) (d : Pass) → partIn G d (chromaSeen q m) ≡ part (axisOf A sx sy d) (axisOf A sx sy (other d)) (blockIn d (q .block))
-    chroma-part m d = go d
-      where
-        at-is : (u ss s : ℕ) → ss ≡ s → ss ≤ 1 → u / 32 * (32 / 2 ^ s) + chromaUnit ss (u % 32) ≡ chromaUnit s u
-        at-is u ss s e h = subst (λ (k : ℕ). u / 32 * (32 / 2 ^ k) + chromaUnit ss (u % 32) ≡ chromaUnit k u) e (chroma-place-is u ss h)
+    chroma-part m columns = λ i. record { at = chroma-x i; across = chroma-w i; from = chroma-y i; along = chroma-h i }
+    chroma-part m rows = λ i. record { at = chroma-y i; across = chroma-h i; from = chroma-x i; along = chroma-w i }
 
-        x-is : q .block .x .0 / 32 * (32 / 2 ^ sx) + chromaSeen q m .B .bx4 ≡ chromaUnit sx (q .block .x .0)
-        x-is = at-is (q .block .x .0) (ssx (q .block)) sx (o .sx-is) (ss-hor-le (q .block .layout))
-
-        y-is : q .block .y .0 / 32 * (32 / 2 ^ sy) + chromaSeen q m .B .by4 ≡ chromaUnit sy (q .block .y .0)
-        y-is = at-is (q .block .y .0) (ssy (q .block)) sy (o .sy-is) (ss-ver-le (q .block .layout))
-
-        w-is : chromaSeen q m .B .w4 ≡ seen (axisOf A sx sy columns) (q .block .x .0) (wide (q .block))
-        w-is = sym wide-seen
-
-        h-is : chromaSeen q m .B .h4 ≡ seen (axisOf A sx sy rows) (q .block .y .0) (high (q .block))
-        h-is = sym high-seen
-
-        go : (d : Pass) → partIn G d (chromaSeen q m) ≡ part (axisOf A sx sy d) (axisOf A sx sy (other d)) (blockIn d (q .block))
-        go columns = λ i. record { at = x-is i; across = w-is i; from = y-is i; along = h-is i }
-        go rows = λ i. record { at = y-is i; across = h-is i; from = x-is i; along = w-is i }
+    pub chroma-lies : (m : Lent) → seesChroma (q .block) ≡ true → (x y : ℕ) → Covers (partIn G columns (chromaSeen q m)) x y → Lies D plane x y
+    chroma-lies m e x y v =
+        let zx = chroma-x ∙ ap (λ (s : ℕ). chromaUnit s (q .block .x .0)) (sym (T .right-ss)) in
+        let zy = chroma-y ∙ ap (λ (s : ℕ). chromaUnit s (q .block .y .0)) (sym (T .down-ss)) in
+        record {
+          C = coded (q .block);
+          B = chromaSeen q m .B;
+          legal = o .legal e;
+          shows = o .shows e m;
+          right-cut = chroma-w ∙ ap₂ (λ (s w : ℕ). min (chromaUnits s w - chromaUnit s (q .block .x .0)) (chromaUnits s (wide (q .block)))) (sym (T .right-ss)) (T .wide);
+          down-cut = chroma-h ∙ ap₂ (λ (s w : ℕ). min (chromaUnits s w - chromaUnit s (q .block .y .0)) (chromaUnits s (high (q .block)))) (sym (T .down-ss)) (T .high);
+          right-in = omega (arith, zx, v .first, v .last);
+          down-in = omega (arith, zy, v .line .first, v .line .last);
+          one = λ _ _ _ _ _ _. refl;
+        }

@@ -1,22 +1,25 @@
 -- A list of calls is a run of the blocks that a plane sees, and their parts are what it shows of the covering: once for a plane whose calls draw or change nothing.
 use mathlib.Core.Bool.{Bool, true, false, cond}
-use mathlib.Core.List.{List, [], _∷_}
+use mathlib.Core.List.{List, [], _∷_, List·Memᴰ, List·Memᴰ·head, List·Memᴰ·tail}
 use mathlib.Core.Path.{_≡_, refl, sym, ap, ap₂, _∙_, subst}
-use Prim.Native.Nat.{ℕ, _≤_}
+use Prim.Native.Nat.{ℕ, _≤_, _<_}
 use Rattle.loops.specs.Run.{All}
+use Rattle.loops.proofs.Closed.{all-at}
 use Rattle.standard.specs.Edge.{Frame}
-use Rattle.plane.specs.Line.{Pass}
+use Rattle.plane.specs.Line.{Pass, columns}
 use Rattle.edges.specs.Edges.{Grid, other}
 use Rattle.block.specs.declared.Block.{Block}
 use Rattle.block.specs.Block.{Lent}
 use Rattle.agree.specs.Legal.{classOf}
-use Rattle.covering.specs.Front.{Part, Ordered, Tiled, Begins}
+use Rattle.covering.specs.Front.{Part, Covers, Ordered, Tiled, Begins}
 use Rattle.covering.specs.Cover.{part, sees, partsOf}
+use Rattle.covering.specs.Standard.{Lies}
 use Rattle.covering.proofs.Theorems as covering
 use Rattle.drawn.specs.Calls.{Call, Records}
 use Rattle.drawn.specs.Run as run
 use Rattle.drawn.specs.Run.{State, contextIn, Seen, partIn, partsIn, Draws, Same, Run, InTile}
-use Rattle.blocks.specs.Laid.{Calls, done, call, Area, axisOf, tileIn, blockIn, blocksIn, Laid}
+use Rattle.drawn.proofs.Tiles.{whose}
+use Rattle.blocks.specs.Laid.{Calls, done, call, Area, axisOf, tileIn, blockIn, blocksIn, Laid, Drawn}
 
 module _ (D : Frame) (plane stride : ℕ) (G : Grid) (A : Area) (sx sy : ℕ) (stateOf : Lent → State) (seenOf : Call → Lent → Seen) (seesIt : Block → Bool)
     (Ok : Call → Type 0) (Long : Lent → Type 0)
@@ -24,45 +27,57 @@ module _ (D : Frame) (plane stride : ℕ) (G : Grid) (A : Area) (sx sy : ℕ) (s
     (same : (q : Call) (m n : Lent) → Records stride q m n → Ok q → seesIt (q .block) ≡ false → Same G (stateOf m) (stateOf n))
     (stays : (q : Call) (m n : Lent) → Records stride q m n → Ok q → Long m → Long n)
     (sees-is : (q : Call) → Ok q → (d : Pass) → sees (axisOf A sx sy d) (axisOf A sx sy (other d)) (blockIn d (q .block)) ≡ seesIt (q .block))
-    (part-is : (q : Call) (m : Lent) → Ok q → (d : Pass) → partIn G d (seenOf q m) ≡ part (axisOf A sx sy d) (axisOf A sx sy (other d)) (blockIn d (q .block))) where
+    (part-is : (q : Call) (m : Lent) → Ok q → (d : Pass) → partIn G d (seenOf q m) ≡ part (axisOf A sx sy d) (axisOf A sx sy (other d)) (blockIn d (q .block)))
+    (lies : (q : Call) (m n : Lent) → Records stride q m n → Ok q → seesIt (q .block) ≡ true → (x y : ℕ) → Covers (partIn G columns (seenOf q m)) x y → Lies D plane x y) where
   record Ran (l : List Call) (m n : Lent) : Type 0 where
     blocks : List Seen
     run : Run D plane G blocks (stateOf m) (stateOf n)
     parts : (d : Pass) → partsIn G d blocks ≡ partsOf (axisOf A sx sy d) (axisOf A sx sy (other d)) (blocksIn d l)
+    lie : (b : Seen) → List·Memᴰ b blocks → (x y : ℕ) → Covers (partIn G columns b) x y → Lies D plane x y
 
   ran : (l : List Call) (m n : Lent) → Calls stride l m n → All Ok l → Long m → Ran l m n
-  ran l m n (done _) o h = record { blocks = []; run = run.done _; parts = λ d. refl }
-  ran (q ∷ l) m n (call _ _ _ x _ R r) o h = go (ran l x n r (o .1) (stays q m x R (o .0) h)) (seesIt (q .block)) refl
+  ran l m n (done _) o h = record { blocks = []; run = run.done _; parts = λ d. refl; lie = λ b h. absurd (all-at (λ (q : Seen). ⊥) [] tt h) }
+  ran (q ∷ l) m n (call _ _ _ now _ R r) o h = go (ran l now n r (o .1) (stays q m now R (o .0) h)) (seesIt (q .block)) refl
     where
-      go : Ran l x n → (b : Bool) → seesIt (q .block) ≡ b → Ran (q ∷ l) m n
+      go : Ran l now n → (b : Bool) → seesIt (q .block) ≡ b → Ran (q ∷ l) m n
       go t true e =
           record {
             blocks = seenOf q m ∷ t .blocks;
-            run = run.drawn _ _ _ (stateOf x) _ (draws q m x R (o .0) h e) (t .run);
+            run = run.drawn _ _ _ (stateOf now) _ (draws q m now R (o .0) h e) (t .run);
             parts = λ d. ap₂ (λ (p : Part) (k : List Part). p ∷ k) (part-is q m (o .0) d) (t .parts d)
                 ∙ sym (ap (λ (b : Bool). cond b (part (axisOf A sx sy d) (axisOf A sx sy (other d)) (blockIn d (q .block)) ∷ partsOf (axisOf A sx sy d) (axisOf A sx sy (other d)) (blocksIn d l)) (partsOf (axisOf A sx sy d) (axisOf A sx sy (other d)) (blocksIn d l))) (sees-is q (o .0) d ∙ e));
+            lie = λ b. elim [ List·Memᴰ·head f ↦ λ x y v. lies q m now R (o .0) e x y (subst (λ (c : Seen). Covers (partIn G columns c) x y) f v) | List·Memᴰ·tail k ↦ t .lie b k ];
           }
       go t false e =
           record {
             blocks = t .blocks;
-            run = run.passed _ _ (stateOf x) _ (same q m x R (o .0) e) (t .run);
+            run = run.passed _ _ (stateOf now) _ (same q m now R (o .0) e) (t .run);
             parts = λ d. t .parts d
                 ∙ sym (ap (λ (b : Bool). cond b (part (axisOf A sx sy d) (axisOf A sx sy (other d)) (blockIn d (q .block)) ∷ partsOf (axisOf A sx sy d) (axisOf A sx sy (other d)) (blocksIn d l)) (partsOf (axisOf A sx sy d) (axisOf A sx sy (other d)) (blocksIn d l))) (sees-is q (o .0) d ∙ e));
+            lie = t .lie;
           }
 
   pub in-tile : (l : List Call) (m n : Lent) (start : ℕ) → Calls stride l m n → All Ok l → Laid A sx sy l → Long m → ((k : ℕ) → classOf plane k ≤ start)
       → ((d : Pass) → Begins start (tileIn A sx sy d) (contextIn d (stateOf m)))
-      → (s : List Seen) × ((d : Pass) → InTile D plane G d (tileIn A sx sy d) s (stateOf m) (stateOf n) start)
-  in-tile l m n start c o L h most begins =
-      let t = ran l m n c o h in (
-        t .blocks,
-        (λ d.
-            let s = covering.promises .seen (axisOf A sx sy d) (axisOf A sx sy (other d)) (L .sound d) (L .sound (other d)) (blocksIn d l) (L .covering d) in
-            record {
-              run = t .run;
-              most = most;
-              begins = begins d;
-              order = subst Ordered (sym (t .parts d)) (s .0);
-              tiled = subst (Tiled (tileIn A sx sy d)) (sym (t .parts d)) (s .1);
-            }),
-      )
+      → Drawn D plane G A sx sy (stateOf m) (stateOf n) start
+  in-tile l m n start c o L h most begins = record { blocks = t .blocks; in-tile = inside; lies = found }
+    where
+      t : Ran l m n
+      t = ran l m n c o h
+
+      inside : (d : Pass) → InTile D plane G d (tileIn A sx sy d) (t .blocks) (stateOf m) (stateOf n) start
+      inside d =
+          let s = covering.promises .seen (axisOf A sx sy d) (axisOf A sx sy (other d)) (L .sound d) (L .sound (other d)) (blocksIn d l) (L .covering d) in
+          record {
+            run = t .run;
+            most = most;
+            begins = begins d;
+            order = subst Ordered (sym (t .parts d)) (s .0);
+            tiled = subst (Tiled (tileIn A sx sy d)) (sym (t .parts d)) (s .1);
+          }
+
+      found : (x y : ℕ) → tileIn A sx sy columns .x0 ≤ x → x < tileIn A sx sy columns .x1 → tileIn A sx sy columns .y0 ≤ y → y < tileIn A sx sy columns .y1 → Lies D plane x y
+      found x y a b c d =
+          let f = inside columns .tiled .every x y a b c d in
+          let r = whose G columns (t .blocks) (f .0) (f .1) in
+          t .lie (r .0) (r .1) x y (subst (λ (p : Part). Covers p x y) (r .2) (f .2))

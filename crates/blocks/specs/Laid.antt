@@ -9,20 +9,23 @@
 --   LumaLegal D A q          the call's block is legal in luma, where some unit of it is seen
 --   ChromaLegal D plane A sx sy q     and in chroma, which it has exactly if some odd luma unit of the plane's lies in it (HasChroma)
 --   LumaLong, ChromaLong     the contexts of a memory reach along the frame
+--   Drawn                    the tile's blocks that a plane sees lead from the state s to t in both passes, and each of its visible units lies in one of them
 use mathlib.Core.Bool.{true, _&&_}
 use mathlib.Core.List.{List, [], _∷_}
 use mathlib.Core.Path.{_≡_}
-use Prim.Native.Nat.{ℕ, _≤_}
+use Prim.Native.Nat.{ℕ, _≤_, _<_}
 use lib.ListN.{length}
 use Rattle.standard.specs.Edge.{Frame}
 use Rattle.plane.specs.Line.{Pass, columns, rows}
 use Rattle.units.specs.Units.{chromaUnits}
-use Rattle.edges.specs.Edges.{other}
+use Rattle.edges.specs.Edges.{Grid, other}
 use Rattle.block.specs.declared.Block.{Block}
 use Rattle.block.specs.Block.{w4, h4, wide, high, ssx, ssy, seesLuma, seesChroma, Lent}
 use Rattle.agree.specs.Legal.{Legal, Shows}
 use Rattle.covering.specs.Front.{Part, Tile}
 use Rattle.covering.specs.Cover.{Axis, Sound, owns, Covering, tileOf}
+use Rattle.covering.specs.Standard.{Lies}
+use Rattle.drawn.specs.Run.{State, Seen, InTile}
 use Rattle.drawn.specs.Calls.{Call, Records, coded, lumaSeen, chromaSeen}
 
 pub data Calls (stride : ℕ) : List Call → Lent → Lent → Type 0 where
@@ -86,3 +89,9 @@ pub record LumaLong (A : Area) (m : Lent) : Type 0 where
 pub record ChromaLong (A : Area) (sx sy : ℕ) (m : Lent) : Type 0 where
   pub above : chromaUnits sx (A .w4) ≤ length (m .above-uv)
   pub left : chromaUnits sy (A .h4) ≤ length (m .left-uv)
+
+pub record Drawn (D : Frame) (plane : ℕ) (G : Grid) (A : Area) (sx sy : ℕ) (s t : State) (start : ℕ) : Type 0 where
+  pub blocks : List Seen
+  pub in-tile : (d : Pass) → InTile D plane G d (tileIn A sx sy d) blocks s t start
+  pub lies : (x y : ℕ) → tileIn A sx sy columns .x0 ≤ x → x < tileIn A sx sy columns .x1 → tileIn A sx sy columns .y0 ≤ y → y < tileIn A sx sy columns .y1
+      → Lies D plane x y

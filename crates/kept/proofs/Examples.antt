@@ -25,16 +25,15 @@ use Rattle.agree.specs.Legal.{Legal, Shows}
 use Rattle.agree.proofs.Theorems as agree
 use Rattle.covering.specs.Front.{Begins}
 use Rattle.covering.specs.Cover.{Axis, Placed}
-use Rattle.covering.specs.Standard.{Covered}
 use Rattle.drawn.specs.Calls.{atBlock, coded, lumaSeen, lumaState, lumaUnits, chromaSeen, chromaState, chromaUnitsOf}
 use Rattle.drawn.specs.Run.{contextIn, Seen, Tallies, OneTile}
 use Rattle.frames.specs.Calls.{Frame}
 use Rattle.blocks.specs.Laid as blocks
 use Rattle.blocks.specs.Laid.{Calls, tileIn, Laid, LumaLegal, ChromaLegal}
 use Rattle.blocks.proofs.Theorems as laid-calls
-use Rattle.kept.specs.Holds.{Holds}
+use Rattle.kept.specs.Holds.{Holds, LumaCalls, ChromaCalls}
 use Rattle.kept.specs.Example.{decoded, call, clear, area, both, head, Example}
-use Rattle.kept.proofs.Keeps.{recorded}
+use Rattle.kept.proofs.Drawn.{luma-calls, chroma-calls}
 use Rattle.kept.proofs.Recorded.{between, after, first, second, words}
 
 -- ---- the blocks cover the tile
@@ -167,28 +166,6 @@ same-at k zero i h = absurd (omega arith)
 same-at k (suc n) zero h = refl
 same-at k (suc n) (suc i) h = same-at k n i (omega arith)
 
-luma-one : (l : List Seen) × OneTile decoded 0 (lumaUnits (call 0 0 .block)) l (lumaState clear) (lumaState after) 2
-luma-one =
-    let r = laid-calls.promises .luma decoded 4 area both clear after 2 refl refl went luma-all (laid 0 0 (omega arith) (omega arith))
-    (record { above = omega arith; left = omega arith }) (λ n. omega (arith, luma-low n)) begins in
-    (r .0, record { tile = elim [ columns ↦ r .1 columns | rows ↦ r .1 rows ]; clear = λ d p c _ _ _. no-bit (edgeBit (lumaUnits (call 0 0 .block)) d p c) })
-  where
-    begins : (d : Pass) → Begins 2 (tileIn area 0 0 d) (contextIn d (lumaState clear))
-    begins columns j _ h = same-at 2 2 j h
-    begins rows j _ h = same-at 2 4 j h
-
-chroma-one : (l : List Seen) × OneTile decoded 1 (chromaUnitsOf (call 0 0 .block)) l (chromaState clear) (chromaState after) 1
-chroma-one =
-    let r = laid-calls.promises .chroma decoded 1 4 area 1 1 both clear after 1 refl refl went chroma-all (laid 1 1 (omega arith) (omega arith))
-    (record { above = omega arith; left = omega arith }) (λ n. omega (arith, chroma-low n)) begins in
-    (r .0, record { tile = elim [ columns ↦ r .1 columns | rows ↦ r .1 rows ]; clear = λ d p c _ _ _. no-bit (edgeBit (chromaUnitsOf (call 0 0 .block)) d p c) })
-  where
-    begins : (d : Pass) → Begins 1 (tileIn area 1 1 d) (contextIn d (chromaState clear))
-    begins columns j _ h = same-at 1 1 j h
-    begins rows j _ h = same-at 1 2 j h
-
--- ---- the frame
-
 luma-tallies : Tallies decoded 0 (lumaUnits (call 0 0 .block))
 luma-tallies =
     record {
@@ -211,87 +188,78 @@ chroma-tallies =
       low = λ n. chroma-low n;
     }
 
-luma-covered : Covered decoded 0
-unfolding bw4 bh4 Num_4x4_Blocks_Wide Num_4x4_Blocks_High
-luma-covered x y hx hy =
-    by-cases (decLt x 2)
-    (λ l. record {
-      C = coded (call 0 0 .block);
-      B = lumaSeen (call 0 0) clear .B;
-      legal = luma-legal 0 0 refl;
-      shows = luma-first clear;
-      right-cut = refl;
-      down-cut = refl;
-      right-in = omega arith;
-      down-in = omega arith;
-      one = λ _ _ _ _ _ _. refl;
-    })
-    (λ l. record {
-      C = coded (call 2 1 .block);
-      B = lumaSeen (call 2 1) clear .B;
-      legal = luma-legal 2 1 refl;
-      shows = luma-second clear;
-      right-cut = refl;
-      down-cut = refl;
-      right-in = omega arith;
-      down-in = omega arith;
-      one = λ _ _ _ _ _ _. refl;
-    })
+luma-one : (l : List Seen) × OneTile decoded 0 (lumaUnits (call 0 0 .block)) l (lumaState clear) (lumaState after) 2
+luma-one =
+    let r = laid-calls.promises .luma decoded 4 area both clear after 2 luma-tallies went luma-all (laid 0 0 (omega arith) (omega arith))
+    (record { above = omega arith; left = omega arith }) (λ n. omega (arith, luma-low n)) begins in
+    (r .blocks, record { tile = elim [ columns ↦ r .in-tile columns | rows ↦ r .in-tile rows ]; clear = λ d p c _ _ _. no-bit (edgeBit (lumaUnits (call 0 0 .block)) d p c) })
+  where
+    begins : (d : Pass) → Begins 2 (tileIn area 0 0 d) (contextIn d (lumaState clear))
+    begins columns j _ h = same-at 2 2 j h
+    begins rows j _ h = same-at 2 4 j h
 
-chroma-covered : Covered decoded 1
-unfolding cbw4 cbh4 Num_4x4_Blocks_Wide Num_4x4_Blocks_High
-chroma-covered x y hx hy =
-    by-cases (decLt x 1)
-    (λ l. record {
-      C = coded (call 0 0 .block);
-      B = chromaSeen (call 0 0) clear .B;
-      legal = chroma-legal 0 0 refl;
-      shows = chroma-shows 0 0 clear refl;
-      right-cut = refl;
-      down-cut = refl;
-      right-in = omega arith;
-      down-in = omega arith;
-      one = λ _ _ _ _ _ _. refl;
-    })
-    (λ l. record {
-      C = coded (call 2 1 .block);
-      B = chromaSeen (call 2 1) clear .B;
-      legal = chroma-legal 2 1 refl;
-      shows = chroma-shows 2 1 clear refl;
-      right-cut = refl;
-      down-cut = refl;
-      right-in = omega arith;
-      down-in = omega arith;
-      one = λ _ _ _ _ _ _. refl;
-    })
+chroma-one : (l : List Seen) × OneTile decoded 1 (chromaUnitsOf (call 0 0 .block)) l (chromaState clear) (chromaState after) 1
+chroma-one =
+    let r = laid-calls.promises .chroma decoded 1 4 area 1 1 both clear after 1 chroma-tallies went chroma-all (laid 1 1 (omega arith) (omega arith))
+    (record { above = omega arith; left = omega arith }) (λ n. omega (arith, chroma-low n)) begins in
+    (r .blocks, record { tile = elim [ columns ↦ r .in-tile columns | rows ↦ r .in-tile rows ]; clear = λ d p c _ _ _. no-bit (edgeBit (chromaUnitsOf (call 0 0 .block)) d p c) })
+  where
+    begins : (d : Pass) → Begins 1 (tileIn area 1 1 d) (contextIn d (chromaState clear))
+    begins columns j _ h = same-at 1 1 j h
+    begins rows j _ h = same-at 1 2 j h
+
+-- ---- the frame
 
 -- ---- together
 
 abbrev frame : Frame
 frame = record { head = head; limits = record { e = replicate 64 20; i = replicate 64 10 }; levels = after .levels; masks = after .masks; words = words }
 
+luma-recorded : LumaCalls frame decoded 4 area both clear after
+luma-recorded =
+    record {
+      units = refl;
+      tallies = luma-tallies;
+      whole = record { left = refl; top = refl; right = refl; bottom = refl };
+      begun = record { clear = λ d p c _ _ _. no-bit (edgeBit (lumaUnits (call 0 0 .block)) d p c); contexts = elim [ columns ↦ λ j h. same-at 2 2 j h | rows ↦ λ j h. same-at 2 4 j h ] };
+      long = record { above = omega arith; left = omega arith };
+      calls = went;
+      legal = luma-all;
+      laid = laid 0 0 (omega arith) (omega arith);
+      masks = refl;
+    }
+
+chroma-recorded : ChromaCalls frame decoded 1 1 4 area both clear after
+chroma-recorded =
+    record {
+      units = refl;
+      tallies = chroma-tallies;
+      whole = record { left = refl; top = refl; right = refl; bottom = refl };
+      begun = record { clear = λ d p c _ _ _. no-bit (edgeBit (chromaUnitsOf (call 0 0 .block)) d p c); contexts = elim [ columns ↦ λ j h. same-at 1 1 j h | rows ↦ λ j h. same-at 1 2 j h ] };
+      long = record { above = omega arith; left = omega arith };
+      calls = went;
+      legal = chroma-all;
+      laid = laid 1 1 (omega arith) (omega arith);
+      masks = refl;
+    }
+
 luma-holds : Holds frame decoded 0
-luma-holds =
-    recorded frame decoded 0 (luma-one .0) (lumaState clear) (lumaState after) 2 luma-tallies (luma-one .1) luma-covered refl
+luma-holds = luma-calls frame decoded 4 area both clear after luma-recorded
 
 chroma-holds : Holds frame decoded 1
-chroma-holds =
-    recorded frame decoded 1 (chroma-one .0) (chromaState clear) (chromaState after) 1 chroma-tallies (chroma-one .1) chroma-covered refl
+chroma-holds = chroma-calls frame decoded 1 1 4 area both clear after chroma-recorded
 
 pub example : Example
 unfolding Num_4x4_Blocks_Wide Num_4x4_Blocks_High Tx_Wide Tx_High applyFilter isTxEdge isBlockEdge log2
 example =
     record {
       after = after;
-      calls = went;
-      laid = laid;
-      luma-legal = luma-all;
-      chroma-legal = chroma-all;
-      luma = luma-one;
-      chroma = chroma-one;
+      luma-tile = luma-one;
+      chroma-tile = chroma-one;
       frame = frame;
       head-is = refl;
-      masks-are = refl;
+      luma = luma-recorded;
+      chroma = chroma-recorded;
       holds = record { luma = luma-holds; chroma = λ _. chroma-holds };
       inner-column = luma-holds .edges columns (1, 0) ∙ refl;
       inner-row = luma-holds .edges rows (1, 0) ∙ refl;

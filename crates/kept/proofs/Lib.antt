@@ -1,4 +1,5 @@
 pub mod Keeps
+pub mod Drawn
 pub mod Recorded
 pub mod Examples
 pub mod Theorems

@@ -10,10 +10,9 @@ use mathlib.Core.Bool.{true, false, cond}
 use mathlib.Core.List.{List, [], _∷_}
 use mathlib.Core.Option.{some, none}
 use mathlib.Core.Path.{_≡_}
-use Prim.Native.Nat.{ℕ, _≤_}
+use Prim.Native.Nat.{ℕ}
 use lib.Dec.{eqb, ltb}
 use lib.ListN.{replicate}
-use Rattle.loops.specs.Run.{All}
 use Rattle.standard.specs.Edge as standard
 use Rattle.plane.specs.Line.{columns, rows}
 use Rattle.edges.specs.Edges.{edge}
@@ -23,8 +22,8 @@ use Rattle.checks.specs.declared.Call as checks
 use Rattle.frames.specs.Calls.{Frame}
 use Rattle.drawn.specs.Calls.{Call, lumaState, lumaUnits, chromaState, chromaUnitsOf}
 use Rattle.drawn.specs.Run.{Seen, OneTile}
-use Rattle.blocks.specs.Laid.{Calls, Area, Laid, LumaLegal, ChromaLegal}
-use Rattle.kept.specs.Holds.{unitsIn, AllHold}
+use Rattle.blocks.specs.Laid.{Area}
+use Rattle.kept.specs.Holds.{unitsIn, AllHold, LumaCalls, ChromaCalls}
 
 abbrev pub decoded : standard.Frame
 decoded =
@@ -71,15 +70,12 @@ both = call 0 0 ∷ call 2 1 ∷ []
 
 pub record Example : Type 0 where
   pub after : Lent
-  pub calls : Calls 4 both clear after
-  pub laid : (sx sy : ℕ) → sx ≤ 1 → sy ≤ 1 → Laid area sx sy both
-  pub luma-legal : All (LumaLegal decoded area) both
-  pub chroma-legal : All (ChromaLegal decoded 1 area 1 1) both
-  pub luma : (l : List Seen) × OneTile decoded 0 (lumaUnits (call 0 0 .block)) l (lumaState clear) (lumaState after) 2
-  pub chroma : (l : List Seen) × OneTile decoded 1 (chromaUnitsOf (call 0 0 .block)) l (chromaState clear) (chromaState after) 1
+  pub luma-tile : (l : List Seen) × OneTile decoded 0 (lumaUnits (call 0 0 .block)) l (lumaState clear) (lumaState after) 2
+  pub chroma-tile : (l : List Seen) × OneTile decoded 1 (chromaUnitsOf (call 0 0 .block)) l (chromaState clear) (chromaState after) 1
   pub frame : Frame
   pub head-is : frame .head ≡ head
-  pub masks-are : frame .masks ≡ after .masks
+  pub luma : LumaCalls frame decoded 4 area both clear after
+  pub chroma : ChromaCalls frame decoded 1 1 4 area both clear after
   pub holds : AllHold frame decoded
   -- an inner edge of the first block in each pass, the edge between the blocks, of the lesser class, and nothing inside the second; in chroma the edge between
   pub inner-column : edge (unitsIn frame 0) (frame .masks) columns (1, 0) ≡ some 0
