@@ -29,10 +29,17 @@ module _ (D : Frame) (plane stride : ℕ) (G : Grid) (A : Area) (sx sy : ℕ) (s
     (sees-is : (q : Call) → Ok q → (d : Pass) → sees (axisOf A sx sy d) (axisOf A sx sy (other d)) (blockIn d (q .block)) ≡ seesIt (q .block))
     (part-is : (q : Call) (m : Lent) → Ok q → (d : Pass) → partIn G d (seenOf q m) ≡ part (axisOf A sx sy d) (axisOf A sx sy (other d)) (blockIn d (q .block)))
     (lies : (q : Call) (m n : Lent) → Records stride q m n → Ok q → seesIt (q .block) ≡ true → (x y : ℕ) → Covers (partIn G columns (seenOf q m)) x y → Lies D plane x y) where
+  -- what the plane shows
+  abbrev shown : Pass → Call → Part
+  shown d q = part (axisOf A sx sy d) (axisOf A sx sy (other d)) (blockIn d (q .block))
+
+  abbrev allShown : Pass → List Call → List Part
+  allShown d l = partsOf (axisOf A sx sy d) (axisOf A sx sy (other d)) (blocksIn d l)
+
   record Ran (l : List Call) (m n : Lent) : Type 0 where
     blocks : List Seen
     run : Run D plane G blocks (stateOf m) (stateOf n)
-    parts : (d : Pass) → partsIn G d blocks ≡ partsOf (axisOf A sx sy d) (axisOf A sx sy (other d)) (blocksIn d l)
+    parts : (d : Pass) → partsIn G d blocks ≡ allShown d l
     lie : (b : Seen) → List·Memᴰ b blocks → (x y : ℕ) → Covers (partIn G columns b) x y → Lies D plane x y
 
   ran : (l : List Call) (m n : Lent) → Calls stride l m n → All Ok l → Long m → Ran l m n
@@ -45,7 +52,7 @@ module _ (D : Frame) (plane stride : ℕ) (G : Grid) (A : Area) (sx sy : ℕ) (s
             blocks = seenOf q m ∷ t .blocks;
             run = run.drawn _ _ _ (stateOf now) _ (draws q m now R (o .0) h e) (t .run);
             parts = λ d. ap₂ (λ (p : Part) (k : List Part). p ∷ k) (part-is q m (o .0) d) (t .parts d)
-                ∙ sym (ap (λ (b : Bool). cond b (part (axisOf A sx sy d) (axisOf A sx sy (other d)) (blockIn d (q .block)) ∷ partsOf (axisOf A sx sy d) (axisOf A sx sy (other d)) (blocksIn d l)) (partsOf (axisOf A sx sy d) (axisOf A sx sy (other d)) (blocksIn d l))) (sees-is q (o .0) d ∙ e));
+                ∙ sym (ap (λ (b : Bool). cond b (shown d q ∷ allShown d l) (allShown d l)) (sees-is q (o .0) d ∙ e));
             lie = λ b. elim [ List·Memᴰ·head f ↦ λ x y v. lies q m now R (o .0) e x y (subst (λ (c : Seen). Covers (partIn G columns c) x y) f v) | List·Memᴰ·tail k ↦ t .lie b k ];
           }
       go t false e =
@@ -53,7 +60,7 @@ module _ (D : Frame) (plane stride : ℕ) (G : Grid) (A : Area) (sx sy : ℕ) (s
             blocks = t .blocks;
             run = run.passed _ _ (stateOf now) _ (same q m now R (o .0) e) (t .run);
             parts = λ d. t .parts d
-                ∙ sym (ap (λ (b : Bool). cond b (part (axisOf A sx sy d) (axisOf A sx sy (other d)) (blockIn d (q .block)) ∷ partsOf (axisOf A sx sy d) (axisOf A sx sy (other d)) (blocksIn d l)) (partsOf (axisOf A sx sy d) (axisOf A sx sy (other d)) (blocksIn d l))) (sees-is q (o .0) d ∙ e));
+                ∙ sym (ap (λ (b : Bool). cond b (shown d q ∷ allShown d l) (allShown d l)) (sees-is q (o .0) d ∙ e));
             lie = t .lie;
           }
 

@@ -5,7 +5,7 @@
 --   tileIn A sx sy d         the visible tile in the plane, as the pass sees it
 --   Whole A                  the tile is the frame, rounded up to 8 samples
 --   blockIn d b, blocksIn    a block in luma units, uncut, as the pass sees it; those of a list of calls
---   Laid A l                 the blocks of l cover the tile, in the standard's order as both passes see it
+--   Laid A sx sy l           the blocks of l cover the tile, in the standard's order as both passes see it
 --   LumaLegal D A q          the call's block is legal in luma, where some unit of it is seen
 --   ChromaLegal D plane A sx sy q     and in chroma, which it has exactly if some odd luma unit of the plane's lies in it (HasChroma)
 --   LumaLong, ChromaLong     the contexts of a memory reach along the frame

@@ -27,14 +27,14 @@ use Rattle.covering.specs.Front.{Begins}
 use Rattle.covering.specs.Cover.{Axis, Placed}
 use Rattle.drawn.specs.Calls.{atBlock, coded, lumaSeen, lumaState, lumaUnits, chromaSeen, chromaState, chromaUnitsOf}
 use Rattle.drawn.specs.Run.{contextIn, Seen, Tallies, OneTile}
-use Rattle.frames.specs.Calls.{Frame}
 use Rattle.blocks.specs.Laid as blocks
 use Rattle.blocks.specs.Laid.{Calls, tileIn, Laid, LumaLegal, ChromaLegal}
 use Rattle.blocks.proofs.Theorems as laid-calls
 use Rattle.kept.specs.Holds.{Holds, LumaCalls, ChromaCalls}
-use Rattle.kept.specs.Example.{decoded, call, clear, area, both, head, Example}
+use Rattle.kept.specs.Example.{decoded, call, clear, area, both, Example}
 use Rattle.kept.proofs.Drawn.{luma-calls, chroma-calls}
-use Rattle.kept.proofs.Recorded.{between, after, first, second, words}
+use Rattle.kept.proofs.Accepts.{accepted}
+use Rattle.kept.proofs.Recorded.{between, after, first, second, frame}
 
 -- ---- the blocks cover the tile
 
@@ -212,9 +212,6 @@ chroma-one =
 
 -- ---- together
 
-abbrev frame : Frame
-frame = record { head = head; limits = record { e = replicate 64 20; i = replicate 64 10 }; levels = after .levels; masks = after .masks; words = words }
-
 luma-recorded : LumaCalls frame decoded 4 area both clear after
 luma-recorded =
     record {
@@ -261,6 +258,7 @@ example =
       luma = luma-recorded;
       chroma = chroma-recorded;
       holds = record { luma = luma-holds; chroma = λ _. chroma-holds };
+      accepted = accepted luma-holds chroma-holds;
       inner-column = luma-holds .edges columns (1, 0) ∙ refl;
       inner-row = luma-holds .edges rows (1, 0) ∙ refl;
       block-edge = luma-holds .edges columns (2, 0) ∙ refl;

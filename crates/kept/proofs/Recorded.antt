@@ -5,6 +5,7 @@ use mathlib.Core.Path.{_≡_, refl}
 use Prim.Native.Nat.{ℕ, zero, suc, _^_}
 use native.Mathlib.Omega.{arith}
 use lib.Dec.{ltb}
+use lib.ListN.{replicate}
 use borrow.Author.Tests.{ltb-true}
 use Rattle.loops.specs.Any.{anyBelow}
 use Rattle.standard.specs.Sizes.{Num_4x4_Blocks_Wide, Num_4x4_Blocks_High, Tx_Wide, Tx_High}
@@ -15,9 +16,10 @@ use Rattle.mask_edges.specs.Folds.{stores, gridMasks, gridPass, blockEdge, step
 use Rattle.block.specs.Block.{bw4, bh4, cbw4, cbh4, Lent}
 use Rattle.block.specs.Tests.{number}
 use Rattle.record.specs.Record.{fillLevels, fillRow, inRecord}
+use Rattle.frames.specs.Calls.{Frame}
 use Rattle.drawn.specs.Calls.{Records}
 use Rattle.tiles.proofs.Calls.{next, records}
-use Rattle.kept.specs.Example.{call, clear}
+use Rattle.kept.specs.Example.{call, clear, head}
 
 abbrev pub between : Lent
 between = next 4 (call 0 0) clear
@@ -48,3 +50,6 @@ all-words (w ∷ l) e (suc i) = all-words l (and-eq-true-iff (ltb w (2 ^ 16)) (s
 pub words : Words (after .masks)
 unfolding Num_4x4_Blocks_Wide Num_4x4_Blocks_High Tx_Wide Tx_High bw4 bh4 cbw4 cbh4 inRecord gridMasks gridPass blockEdge stepEdges marks mark stores log2 edgeBit
 words = all-words (after .masks) refl
+
+abbrev pub frame : Frame
+frame = record { head = head; limits = record { e = replicate 64 20; i = replicate 64 10 }; levels = after .levels; masks = after .masks; words = words }

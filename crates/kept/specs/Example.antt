@@ -4,8 +4,9 @@
 --   clear              the memory before it: masks and levels of 0, contexts of the highest class
 --   area, both         its tile, and the two calls
 --   head               what the calls that filter the frame are given
+--   zeros, samples     its samples, all 0
 --   Example            the two calls are accepted, one after the other; their blocks are legal and cover the tile in order; a frame with the masks that they
---                      leave holds the standard's edges, and some of them
+--                      leave holds the standard's edges, and its calls answer 0; some of the edges
 use mathlib.Core.Bool.{true, false, cond}
 use mathlib.Core.List.{List, [], _∷_}
 use mathlib.Core.Option.{some, none}
@@ -15,11 +16,12 @@ use lib.Dec.{eqb, ltb}
 use lib.ListN.{replicate}
 use Rattle.standard.specs.Edge as standard
 use Rattle.plane.specs.Line.{columns, rows}
+use Rattle.plane.specs.Three.{Three}
 use Rattle.edges.specs.Edges.{edge}
 use Rattle.block.specs.Block.{Lent, lent}
 use Rattle.record.specs.Record.{intraOf}
 use Rattle.checks.specs.declared.Call as checks
-use Rattle.frames.specs.Calls.{Frame}
+use Rattle.frames.specs.Calls.{Frame, Accepted}
 use Rattle.drawn.specs.Calls.{Call, lumaState, lumaUnits, chromaState, chromaUnitsOf}
 use Rattle.drawn.specs.Run.{Seen, OneTile}
 use Rattle.blocks.specs.Laid.{Area}
@@ -68,6 +70,12 @@ area = record { w4 = 4; h4 = 2; MiCols = 4; MiRows = 2; x0 = 0; x1 = 4; y0 = 0; 
 abbrev pub both : List Call
 both = call 0 0 ∷ call 2 1 ∷ []
 
+unfoldable pub zeros : ℕ → List ℕ
+zeros n = replicate n 0
+
+abbrev pub samples : Three (List ℕ)
+samples = record { luma = zeros 16384; u = zeros 4096; v = zeros 4096 }
+
 pub record Example : Type 0 where
   pub after : Lent
   pub luma-tile : (l : List Seen) × OneTile decoded 0 (lumaUnits (call 0 0 .block)) l (lumaState clear) (lumaState after) 2
@@ -77,6 +85,7 @@ pub record Example : Type 0 where
   pub luma : LumaCalls frame decoded 4 area both clear after
   pub chroma : ChromaCalls frame decoded 1 1 4 area both clear after
   pub holds : AllHold frame decoded
+  pub accepted : Accepted frame samples
   -- an inner edge of the first block in each pass, the edge between the blocks, of the lesser class, and nothing inside the second; in chroma the edge between
   pub inner-column : edge (unitsIn frame 0) (frame .masks) columns (1, 0) ≡ some 0
   pub inner-row : edge (unitsIn frame 0) (frame .masks) rows (1, 0) ≡ some 0
