@@ -7,7 +7,7 @@ target=x86_64-unknown-linux-gnu
 
 compile() { # FILE.c FILE.o
     "$toolchain/bin/clang" -target $target -O2 -fPIE -Wall -Wextra -Wno-unused-function -ffreestanding -nostdinc \
-        -isystem "$root/oracle/freestanding" -I "$root/include" -c "$1" -o "$2"
+        -isystem "$root/oracle/driver/freestanding" -I "$root/include" -c "$1" -o "$2"
 }
 
 join() { # PROGRAM FILE..

@@ -1,5 +1,5 @@
 //! rav1d's deblocking as an oracle: it makes cases from a seed, gives rav1d's answers, and compares
-//! them with the answers of a program. See README.md.
+//! them with the answers of a program. See oracle/README.md.
 
 // rav1d's text names the crates that it depends on; what it takes of them stands at our root.
 extern crate derive as strum;
