@@ -27,7 +27,7 @@ enum deblock_number {
     DEBLOCK_SHAPE = 4,      // layout, frame size or superblock size, or a chroma pair at layout 400
     DEBLOCK_BLOCK = 5,      // block size, transform, place or reference
     DEBLOCK_CONTEXT = 6,    // a context too short, or with a value above its range
-    DEBLOCK_LENGTH = 7,     // levels or masks too short, or stride below w4
+    DEBLOCK_LENGTH = 7,     // levels or masks too short, or level_stride below w4
     DEBLOCK_LEVEL_BYTE = 8, // a level byte above 63
     DEBLOCK_PLANE = 9,      // plane too short, its stride below the stored width, or a sample above the maximum
     DEBLOCK_OUTSIDE = 10,   // superblock row or tile start outside the frame
@@ -38,8 +38,8 @@ enum deblock_number {
 // What is lent, and what the caller sees to:
 //   width, height  1 to 16384 samples. w4 = (width + 3) / 4 and h4 likewise are the frame's luma units, of 4 by 4.
 //   layout         400, 420, 422 or 444. A superblock is 64 or 128. A flag is 0 or not 0.
-//   levels         4 bytes a unit, at 4 * (y * stride + x): luma columns, luma rows, U, V, the last two by the chroma
-//                  unit. stride is at least w4; 4 * stride * h4 bytes or more.
+//   levels         4 bytes a unit, at 4 * (y * level_stride + x): luma columns, luma rows, U, V, the last two by the
+//                  chroma unit. level_stride is at least w4; 4 * level_stride * h4 bytes or more.
 //   masks          640 words for each 128 by 128 samples, ((w4 + 31) / 32) * ((h4 + 31) / 32) times, in raster order.
 //                  Cleared once a frame: recording adds bits and takes none away.
 //   above, left    contexts, a byte a unit, luma 0 to 2, chroma (_uv) 0 to 1. Set to 2 and 1: above at a tile's top,
@@ -53,8 +53,8 @@ enum deblock_number {
 uint32_t deblock_limits(uint8_t e[64], uint8_t i[64], uint64_t sharp[2], uint32_t sharpness);
 
 // The level values [8 segments][luma columns, luma rows, U, V][8 references][2 modes] of a frame header, the
-// standard's. base is a level for each kind. ref_delta and mode_delta are -64 to 63, lf_delta and seg_delta
-// ([segment][kind]) -63 to 63: a segment's -64, which a stream may hold, is clipped by the caller. A frame whose two
+// standard's. base is a level for each area. ref_delta and mode_delta are -64 to 63, lf_delta and seg_delta
+// ([segment][area]) -63 to 63: a segment's -64, which a stream may hold, is clipped by the caller. A frame whose two
 // luma levels are 0 is skipped. Answers 2, 4, or 0: all 512 bytes are written, without segmentation the first 64.
 uint32_t deblock_levels(uint8_t values[512], uint32_t layout, const uint8_t base[4], uint32_t delta_enabled,
                         const int8_t ref_delta[8], const int8_t mode_delta[2], uint32_t multi,
@@ -65,13 +65,13 @@ uint32_t deblock_levels(uint8_t values[512], uint32_t layout, const uint8_t base
 // standard's codes; chroma the flag of the chroma pair; tx_masks the transform split at depth 0 and 1, bit y * 4 +
 // x; mode 0 for intra and global motion. Answers 4, 5, 6, 7, or 0: recorded, and every other byte and bit is as
 // before.
-uint32_t deblock_record_intra(uint8_t *levels, size_t levels_len, size_t stride, uint16_t *masks, size_t masks_len,
-                              const uint8_t values[64], uint32_t width, uint32_t height, uint32_t layout,
+uint32_t deblock_record_intra(uint8_t *levels, size_t levels_len, size_t level_stride, uint16_t *masks,
+                              size_t masks_len, const uint8_t values[64], uint32_t width, uint32_t height, uint32_t layout,
                               uint32_t x, uint32_t y, uint32_t size, uint32_t tx, uint8_t *above, size_t above_len,
                               uint8_t *left, size_t left_len, uint32_t chroma, uint32_t uvtx, uint8_t *above_uv,
                               size_t above_uv_len, uint8_t *left_uv, size_t left_uv_len);
-uint32_t deblock_record_inter(uint8_t *levels, size_t levels_len, size_t stride, uint16_t *masks, size_t masks_len,
-                              const uint8_t values[64], uint32_t width, uint32_t height, uint32_t layout,
+uint32_t deblock_record_inter(uint8_t *levels, size_t levels_len, size_t level_stride, uint16_t *masks,
+                              size_t masks_len, const uint8_t values[64], uint32_t width, uint32_t height, uint32_t layout,
                               uint32_t x, uint32_t y, uint32_t size, uint32_t tx, const uint16_t tx_masks[2],
                               uint32_t skip, uint32_t reference, uint32_t mode, uint8_t *above, size_t above_len,
                               uint8_t *left, size_t left_len, uint32_t chroma, uint32_t uvtx, uint8_t *above_uv,
@@ -95,23 +95,23 @@ uint32_t deblock_correct_row(uint16_t *masks, size_t masks_len, uint32_t width, 
 // Answers 2, 3 (_16 alone), 4, 7, 8, 9, 10, 11, 12, or 0: the planes are filtered.
 uint32_t deblock_columns_8(uint8_t *luma, size_t luma_len, size_t luma_stride, uint8_t *u, size_t u_len, uint8_t *v,
                            size_t v_len, size_t chroma_stride, const uint8_t *levels, size_t levels_len,
-                           size_t stride, const uint16_t *masks, size_t masks_len, const uint8_t e[64],
+                           size_t level_stride, const uint16_t *masks, size_t masks_len, const uint8_t e[64],
                            const uint8_t i[64], uint32_t width, uint32_t height, uint32_t layout,
                            uint32_t superblock, uint32_t level_u, uint32_t level_v, uint32_t row);
 uint32_t deblock_rows_8(uint8_t *luma, size_t luma_len, size_t luma_stride, uint8_t *u, size_t u_len, uint8_t *v,
-                        size_t v_len, size_t chroma_stride, const uint8_t *levels, size_t levels_len, size_t stride,
-                        const uint16_t *masks, size_t masks_len, const uint8_t e[64], const uint8_t i[64],
+                        size_t v_len, size_t chroma_stride, const uint8_t *levels, size_t levels_len,
+                        size_t level_stride, const uint16_t *masks, size_t masks_len, const uint8_t e[64], const uint8_t i[64],
                         uint32_t width, uint32_t height, uint32_t layout, uint32_t superblock, uint32_t level_u,
                         uint32_t level_v, uint32_t row);
 uint32_t deblock_columns_16(uint16_t *luma, size_t luma_len, size_t luma_stride, uint16_t *u, size_t u_len,
                             uint16_t *v, size_t v_len, size_t chroma_stride, const uint8_t *levels,
-                            size_t levels_len, size_t stride, const uint16_t *masks, size_t masks_len,
+                            size_t levels_len, size_t level_stride, const uint16_t *masks, size_t masks_len,
                             const uint8_t e[64], const uint8_t i[64], uint32_t depth, uint32_t width,
                             uint32_t height, uint32_t layout, uint32_t superblock, uint32_t level_u,
                             uint32_t level_v, uint32_t row);
 uint32_t deblock_rows_16(uint16_t *luma, size_t luma_len, size_t luma_stride, uint16_t *u, size_t u_len, uint16_t *v,
-                         size_t v_len, size_t chroma_stride, const uint8_t *levels, size_t levels_len, size_t stride,
-                         const uint16_t *masks, size_t masks_len, const uint8_t e[64], const uint8_t i[64],
+                         size_t v_len, size_t chroma_stride, const uint8_t *levels, size_t levels_len,
+                         size_t level_stride, const uint16_t *masks, size_t masks_len, const uint8_t e[64], const uint8_t i[64],
                          uint32_t depth, uint32_t width, uint32_t height, uint32_t layout, uint32_t superblock,
                          uint32_t level_u, uint32_t level_v, uint32_t row);
 

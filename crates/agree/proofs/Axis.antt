@@ -3,7 +3,8 @@
 use mathlib.Core.Path.{_≡_, refl, sym, ap, ap₂, subst₂, _∙_}
 use mathlib.Core.Logic.{_⊎_, inl, inr, ⊎-elim, by-cases}
 use Prim.Native.Nat.{ℕ, zero, suc, _+_, _-_, _*_, _/_, _%_, _^_, _≤_, _<_, _∣_}
-use native.Mathlib.Nat.{zero-add, mod-mod, add-mod, mod-one, mod-eq-of-lt, mul-mod-left, mod-add-div', pow-suc, one-le-pow, one-dvd, dvd-refl, dvd-trans, mul-dvd-mul-left, mul-dvd-mul-right, dvd-of-mul-dvd-mul-left, dvd-of-mod-eq-zero, mod-eq-zero-of-dvd}
+use native.Mathlib.Nat.{zero-add, mod-mod, add-mod, mod-one, mod-eq-of-lt, mul-mod-left, mod-add-div', pow-suc, one-le-pow, one-dvd, dvd-refl, dvd-trans}
+use native.Mathlib.Nat.{mul-dvd-mul-left, mul-dvd-mul-right, dvd-of-mul-dvd-mul-left, dvd-of-mod-eq-zero, mod-eq-zero-of-dvd}
 use native.Mathlib.Decide.{ℕ-discrete}
 use native.Mathlib.Omega.{arith}
 use lib.Bits.{bitOr, or-shifted}

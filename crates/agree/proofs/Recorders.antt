@@ -20,11 +20,11 @@ use Rattle.agree.specs.Legal.{Coded, classOf, Shows, Sized}
 
 record Part (s t : ℕ) : Type 0 where
   pub code : s < 19
-  pub wide : Tx_Wide s ≤ Tx_Wide t
-  pub high : Tx_High s ≤ Tx_High t
+  pub width : Tx_Wide s ≤ Tx_Wide t
+  pub height : Tx_High s ≤ Tx_High t
 
 whole : (t : ℕ) → t < 19 → Part t t
-whole t h = record { code = h; wide = omega arith; high = omega arith }
+whole t h = record { code = h; width = omega arith; height = omega arith }
 
 -- the side is halved, or stays; 4x4 stays
 side : (own other part t : ℕ) → (other ≤ own → 0 < t → 2 * part ≡ own) → (own < other → part ≡ own) → (t ≡ 0 → part ≡ own) → part ≤ own
@@ -37,8 +37,8 @@ half t h =
     let r = tx-rule t h .split in
     record {
       code = r .code;
-      wide = side (Tx_Wide t) (Tx_High t) (Tx_Wide (Split_Tx_Size t)) t (r .wide) (r .wide-stays) (λ e. ap Tx_Wide (r .least e ∙ sym e));
-      high = side (Tx_High t) (Tx_Wide t) (Tx_High (Split_Tx_Size t)) t (r .high) (r .high-stays) (λ e. ap Tx_High (r .least e ∙ sym e));
+      width = side (Tx_Wide t) (Tx_High t) (Tx_Wide (Split_Tx_Size t)) t (r .width) (r .wide-stays) (λ e. ap Tx_Wide (r .least e ∙ sym e));
+      height = side (Tx_High t) (Tx_Wide t) (Tx_High (Split_Tx_Size t)) t (r .height) (r .high-stays) (λ e. ap Tx_High (r .least e ∙ sym e));
     }
 
 leaf-part : (ms : List ℕ) (t : ℕ) → t < 19 → (x y : ℕ) → Part (leaf ms t x y) t
@@ -46,7 +46,7 @@ leaf-part [] t h x y = whole t h
 leaf-part (m ∷ ms) t h x y = let p = half t h in go p (leaf-part ms (Split_Tx_Size t) (p .code) x y) (isSplit m t x y)
   where
     go : {s : ℕ} → Part (Split_Tx_Size t) t → Part s (Split_Tx_Size t) → (b : Bool) → Part (cond b s t) t
-    go p q true = record { code = q .code; wide = omega arith; high = omega arith }
+    go p q true = record { code = q .code; width = omega arith; height = omega arith }
     go p q false = whole t h
 
 -- ---- the three blocks
@@ -60,7 +60,7 @@ module _ (D : Frame) (plane : ℕ) (C : Coded) (by4 bx4 w4 h4 t : ℕ) (tx : ℕ
         high-seen = s .high-seen;
         tx = s .known;
         code = λ x y _ _. part x y .code;
-        fits = λ x y _ _. (omega (arith, part x y .wide, s .fits .0), omega (arith, part x y .high, s .fits .1));
+        fits = λ x y _ _. (omega (arith, part x y .width, s .fits .0), omega (arith, part x y .height, s .fits .1));
         class = e;
         inner = f;
       }

@@ -14,7 +14,7 @@ use Rattle.units.specs.Memory.{halfUnits}
 use Rattle.units.specs.Sizes.{lumaClass, chromaClass, Side, BlockRule}
 use Rattle.units.proofs.Rules.{block-rule, tx-rule}
 use Rattle.mask_edges.specs.Recording.{Block, Sweep, columns, rows, isEdge, classBefore, classAt, contextAfter, Recorded}
-use Rattle.agree.specs.Legal.{Coded, lumaWide, lumaHigh, left, top, wide, high, rowAt, colAt, Legal, classOf, sideOf, Shows, Tells}
+use Rattle.agree.specs.Legal.{Coded, lumaWidth, lumaHeight, left, top, blockWidth, blockHeight, rowAt, colAt, Legal, classOf, sideOf, Shows, Tells}
 use Rattle.agree.specs.Promises.{widthOf, start, Agrees, bitsOf, classes, Marks, Promises}
 use Rattle.agree.proofs.Widths.{width-same}
 use Rattle.agree.proofs.Axis.{own-unit, prev-unit, same-unit, covered, tx-test, block-test}
@@ -32,8 +32,8 @@ side-of : (pass t : ℕ) → t < 19 → Side (sideOf pass t) 16
 side-of pass t h = go (eqb pass 0)
   where
     go : (b : Bool) → Side (cond b (Tx_Wide t) (Tx_High t)) 16
-    go true = tx-rule t h .wide
-    go false = tx-rule t h .high
+    go true = tx-rule t h .width
+    go false = tx-rule t h .height
 
 -- a context that holds the highest class says nothing
 at-most : (luma : Bool) (n : ℕ) → cond luma (lumaClass n) (chromaClass n) ≤ cond luma 2 1
@@ -132,10 +132,10 @@ module _ (D : Frame) (plane : ℕ) (C : Coded) (B : Block) (S : Shows D plane C 
     rule : BlockRule (C .MiSize)
     rule = block-rule (C .MiSize) (L .code)
 
-    in-wide : x < wide D plane C
+    in-wide : x < blockWidth D plane C
     in-wide = omega (arith, h, S .wide-seen .1)
 
-    in-high : y < high D plane C
+    in-high : y < blockHeight D plane C
     in-high = omega (arith, k, S .high-seen .1)
 
     own : (D .MiSize (bitOr row (D .sy plane)) (bitOr col (D .sx plane)) ≡ C .MiSize)
@@ -143,8 +143,8 @@ module _ (D : Frame) (plane : ℕ) (C : Coded) (B : Block) (S : Shows D plane C 
         × (D .isIntra (bitOr row (D .sy plane)) (bitOr col (D .sx plane)) ≡ C .isIntra)
     own =
         L .covers (bitOr row (D .sy plane)) (bitOr col (D .sx plane))
-        (covered (lumaHigh C) (rule .high) (C .MiRow) (D .sy plane) (L .down) y in-high)
-        (covered (lumaWide C) (rule .wide) (C .MiCol) (D .sx plane) (L .across) x in-wide)
+        (covered (lumaHeight C) (rule .height) (C .MiRow) (D .sy plane) (L .down) y in-high)
+        (covered (lumaWidth C) (rule .width) (C .MiCol) (D .sx plane) (L .across) x in-wide)
 
     tx-is : D .TxSizes plane (bitOr row (D .sy plane) / 2 ^ D .sy plane) (bitOr col (D .sx plane) / 2 ^ D .sx plane) ≡ B .tx x y
     tx-is = tx-here ∙ S .tx x y h k
@@ -154,10 +154,10 @@ module _ (D : Frame) (plane : ℕ) (C : Coded) (B : Block) (S : Shows D plane C 
     columns-edge =
         apply
         (ap (λ (t : ℕ). eqb (xP D plane 0 row col % (4 * Tx_Wide t)) 0) tx-is
-        ∙ tx-test (D .sx plane) (lumaWide C) (C .MiCol) (rule .wide) (L .across) x (Tx_Wide (B .tx x y)) (tx-rule (B .tx x y) (S .code x y h k) .wide)
+        ∙ tx-test (D .sx plane) (lumaWidth C) (C .MiCol) (rule .width) (L .across) x (Tx_Wide (B .tx x y)) (tx-rule (B .tx x y) (S .code x y h k) .width)
         (S .fits x y h k .0))
         (ap (λ (b : ℕ). eqb (xP D plane 0 row col % planeSide (Num_4x4_Blocks_Wide b) (D .sx plane)) 0) (own .0)
-        ∙ block-test (D .sx plane) (lumaWide C) (C .MiCol) (rule .wide) (L .across) x in-wide)
+        ∙ block-test (D .sx plane) (lumaWidth C) (C .MiCol) (rule .width) (L .across) x in-wide)
         (own .1) (own .2) (S .inner)
 
     rows-edge : isEdge (rows B) y x ≡ applyFilter D plane 1 row col
@@ -165,10 +165,10 @@ module _ (D : Frame) (plane : ℕ) (C : Coded) (B : Block) (S : Shows D plane C 
     rows-edge =
         apply
         (ap (λ (t : ℕ). eqb (yP D plane 1 row col % (4 * Tx_High t)) 0) tx-is
-        ∙ tx-test (D .sy plane) (lumaHigh C) (C .MiRow) (rule .high) (L .down) y (Tx_High (B .tx x y)) (tx-rule (B .tx x y) (S .code x y h k) .high)
+        ∙ tx-test (D .sy plane) (lumaHeight C) (C .MiRow) (rule .height) (L .down) y (Tx_High (B .tx x y)) (tx-rule (B .tx x y) (S .code x y h k) .height)
         (S .fits x y h k .1))
         (ap (λ (b : ℕ). eqb (yP D plane 1 row col % planeSide (Num_4x4_Blocks_High b) (D .sy plane)) 0) (own .0)
-        ∙ block-test (D .sy plane) (lumaHigh C) (C .MiRow) (rule .high) (L .down) y in-high)
+        ∙ block-test (D .sy plane) (lumaHeight C) (C .MiRow) (rule .height) (L .down) y in-high)
         (own .1) (own .2) (S .inner)
 
     to-left : filterLen plane (filterSize plane (4 * Tx_Wide (D .TxSizes plane (Y + y) (X + x))) (4 * Tx_Wide (D .TxSizes plane (Y + y) (X + x - 1))))
@@ -197,7 +197,7 @@ module _ (D : Frame) (plane : ℕ) (C : Coded) (B : Block) (S : Shows D plane C 
           corrected = λ z e c q. corrected plane 1 (rows B) x Y (λ r. D .TxSizes plane r (X + x)) (S .class) (down x h) y k z e c q ∙ to-above;
         }
 
-    module _ (wide : B .bx4 + B .w4 ≤ 2 * halfUnits (D .sx plane)) (high : B .by4 + B .h4 ≤ 2 * halfUnits (D .sy plane)) (before after : List ℕ)
+    module _ (blockWidth : B .bx4 + B .w4 ≤ 2 * halfUnits (D .sx plane)) (blockHeight : B .by4 + B .h4 ≤ 2 * halfUnits (D .sy plane)) (before after : List ℕ)
         (R : Recorded B (bitsOf D plane) before after) where
       low : (n : ℕ) → B .class n < classes plane
       low n = rw (S .class n) (class-low (eqb plane 0) n)
@@ -206,14 +206,14 @@ module _ (D : Frame) (plane : ℕ) (C : Coded) (B : Block) (S : Shows D plane C 
       columns-mark =
           record {
             bit = λ c q. rw columns-edge at
-                (in-columns B (eqb plane 0) (D .sx plane) (D .sy plane) (L .across .sub) (L .down .sub) wide high low before after R x y h k c q);
+                (in-columns B (eqb plane 0) (D .sx plane) (D .sy plane) (L .across .sub) (L .down .sub) blockWidth blockHeight low before after R x y h k c q);
           }
 
       rows-mark : Marks D plane 1 row col (rows B) y x before after
       rows-mark =
           record {
             bit = λ c q. rw rows-edge at
-                (in-rows B (eqb plane 0) (D .sx plane) (D .sy plane) (L .across .sub) (L .down .sub) wide high low before after R x y h k c q);
+                (in-rows B (eqb plane 0) (D .sx plane) (D .sy plane) (L .across .sub) (L .down .sub) blockWidth blockHeight low before after R x y h k c q);
           }
 
 -- ---- the frame's own border

@@ -39,7 +39,7 @@ low = each-at 17 (λ n. log2 n < 5) (search arith)
 same : (luma : Bool) (n m : ℕ) → Side n 16 → Side m 16 → Same luma n m
 same luma n m p q =
     rw (p .power, q .power) at
-    (each-at 5 (λ j. Same luma (2 ^ log2 n) (2 ^ j)) (at-powers luma (log2 n) (low n (omega (arith, p .high)))) (log2 m) (low m (omega (arith, q .high))))
+    (each-at 5 (λ j. Same luma (2 ^ log2 n) (2 ^ j)) (at-powers luma (log2 n) (low n (omega (arith, p .at-most)))) (log2 m) (low m (omega (arith, q .at-most))))
 
 pub width-same : (plane n m : ℕ) → Side n 16 → Side m 16
     → widthOf plane (min (classOf plane n) (classOf plane m)) ≡ filterLen plane (filterSize plane (4 * n) (4 * m))

@@ -1,7 +1,7 @@
 -- A block of a legal stream: as the standard's frame knows it, and as it is recorded in one plane. What is assumed of the stream is here.
 --   Coded                the block: its luma place, its size, skip and intra
 --   left, top            its place in a plane, in units of the plane
---   wide, high           its sides there
+--   blockWidth, blockHeight           its sides there
 --   rowAt y, colAt x     the luma place at which 7.14.1 visits the unit (x, y) of the block
 --   Placed ss n at       a block of n luma units at `at` has its place in the plane
 --   Legal D plane C      the frame D holds the block C, which has the plane
@@ -29,11 +29,11 @@ pub record Coded : Type 0 where
   pub Skip : Bool
   pub isIntra : Bool
 
-abbrev pub lumaWide : Coded → ℕ
-lumaWide C = Num_4x4_Blocks_Wide (C .MiSize)
+abbrev pub lumaWidth : Coded → ℕ
+lumaWidth C = Num_4x4_Blocks_Wide (C .MiSize)
 
-abbrev pub lumaHigh : Coded → ℕ
-lumaHigh C = Num_4x4_Blocks_High (C .MiSize)
+abbrev pub lumaHeight : Coded → ℕ
+lumaHeight C = Num_4x4_Blocks_High (C .MiSize)
 
 module _ (D : Frame) (plane : ℕ) (C : Coded) where
   abbrev pub left : ℕ
@@ -42,11 +42,11 @@ module _ (D : Frame) (plane : ℕ) (C : Coded) where
   abbrev pub top : ℕ
   top = chromaUnit (D .sy plane) (C .MiRow)
 
-  abbrev pub wide : ℕ
-  wide = chromaUnits (D .sx plane) (lumaWide C)
+  abbrev pub blockWidth : ℕ
+  blockWidth = chromaUnits (D .sx plane) (lumaWidth C)
 
-  abbrev pub high : ℕ
-  high = chromaUnits (D .sy plane) (lumaHigh C)
+  abbrev pub blockHeight : ℕ
+  blockHeight = chromaUnits (D .sy plane) (lumaHeight C)
 
   abbrev pub rowAt : ℕ → ℕ
   rowAt y = (top + y) * 2 ^ D .sy plane
@@ -62,10 +62,10 @@ pub record Placed (ss n at : ℕ) : Type 0 where
 
 pub record Legal (D : Frame) (plane : ℕ) (C : Coded) : Type 0 where
   pub code : C .MiSize < 22
-  pub across : Placed (D .sx plane) (lumaWide C) (C .MiCol)
-  pub down : Placed (D .sy plane) (lumaHigh C) (C .MiRow)
+  pub across : Placed (D .sx plane) (lumaWidth C) (C .MiCol)
+  pub down : Placed (D .sy plane) (lumaHeight C) (C .MiRow)
   -- it covers its units; beyond the frame 7.14 asks nothing
-  pub covers : (row col : ℕ) → (C .MiRow ≤ row) × (row < C .MiRow + lumaHigh C) → (C .MiCol ≤ col) × (col < C .MiCol + lumaWide C)
+  pub covers : (row col : ℕ) → (C .MiRow ≤ row) × (row < C .MiRow + lumaHeight C) → (C .MiCol ≤ col) × (col < C .MiCol + lumaWidth C)
       → (D .MiSize row col ≡ C .MiSize) × (D .Skip row col ≡ C .Skip) × (D .isIntra row col ≡ C .isIntra)
 
 abbrev pub classOf : ℕ → ℕ → ℕ
@@ -76,11 +76,11 @@ sideOf pass t = cond (eqb pass 0) (Tx_Wide t) (Tx_High t)
 
 -- LoopfilterTxSizes has the transforms, and none is larger than the block
 pub record Shows (D : Frame) (plane : ℕ) (C : Coded) (B : Block) : Type 0 where
-  pub wide-seen : (0 < B .w4) × (B .w4 ≤ wide D plane C)
-  pub high-seen : (0 < B .h4) × (B .h4 ≤ high D plane C)
+  pub wide-seen : (0 < B .w4) × (B .w4 ≤ blockWidth D plane C)
+  pub high-seen : (0 < B .h4) × (B .h4 ≤ blockHeight D plane C)
   pub tx : (x y : ℕ) → x < B .w4 → y < B .h4 → D .TxSizes plane (top D plane C + y) (left D plane C + x) ≡ B .tx x y
   pub code : (x y : ℕ) → x < B .w4 → y < B .h4 → B .tx x y < 19
-  pub fits : (x y : ℕ) → x < B .w4 → y < B .h4 → (Tx_Wide (B .tx x y) ≤ wide D plane C) × (Tx_High (B .tx x y) ≤ high D plane C)
+  pub fits : (x y : ℕ) → x < B .w4 → y < B .h4 → (Tx_Wide (B .tx x y) ≤ blockWidth D plane C) × (Tx_High (B .tx x y) ≤ blockHeight D plane C)
   pub class : (n : ℕ) → B .class n ≡ classOf plane n
   pub inner : B .inner ≡ (not (C .Skip) || C .isIntra)
 
@@ -89,8 +89,8 @@ pub record Tells (plane pass t k : ℕ) : Type 0 where
   pub class : k ≡ classOf plane (sideOf pass t)
 
 pub record Sized (D : Frame) (plane : ℕ) (C : Coded) (w4 h4 t : ℕ) (tx : ℕ → ℕ → ℕ) : Type 0 where
-  pub wide-seen : (0 < w4) × (w4 ≤ wide D plane C)
-  pub high-seen : (0 < h4) × (h4 ≤ high D plane C)
+  pub wide-seen : (0 < w4) × (w4 ≤ blockWidth D plane C)
+  pub high-seen : (0 < h4) × (h4 ≤ blockHeight D plane C)
   pub code : t < 19
-  pub fits : (Tx_Wide t ≤ wide D plane C) × (Tx_High t ≤ high D plane C)
+  pub fits : (Tx_Wide t ≤ blockWidth D plane C) × (Tx_High t ≤ blockHeight D plane C)
   pub known : (x y : ℕ) → x < w4 → y < h4 → D .TxSizes plane (top D plane C + y) (left D plane C + x) ≡ tx x y

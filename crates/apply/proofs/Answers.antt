@@ -7,11 +7,11 @@ use Prim.Native.Nat.{ℕ, zero, suc}
 use native.Mathlib.Omega.{arith}
 use borrow.Author.Tests.{ne-eqb}
 use Rattle.loops.proofs.Runs.{upTo-idle}
-use Rattle.plane.specs.Line.{Pass, columns, rows, Piece}
+use Rattle.plane.specs.Line.{Pass, columns, rows, Piece, passOf}
 use Rattle.plane.specs.Plane.{Plane, inner, act, colsOf, rowsOf}
 use Rattle.plane.specs.Three.{Three, colsCall, rowsCall}
 use Rattle.plane.proofs.Pieces.{idle}
-use Rattle.filter.specs.Filter.{Tables, passOf, planeOf, sweepOf}
+use Rattle.filter.specs.Filter.{Tables, planeOf, sweepOf}
 use Rattle.filter.proofs.Sweeps.{promises}
 use Rattle.checks.specs.declared.Call.{Call}
 use Rattle.checks.specs.Call.{Lent, chromaOn}
@@ -30,11 +30,11 @@ module _ (P : Plane) where
 
   cols-none : (k : ℕ) (s : List ℕ) → colsOf (shown false P) k s ≡ s
   unfolding colsOf
-  cols-none k = upTo-idle _ 0 (P .groups) (λ g _. upTo-idle _ 0 (P .group) (λ x _. upTo-idle _ 0 (P .sb) (λ y _. none-done columns _) (omega arith)) (omega arith)) (omega arith)
+  cols-none k = upTo-idle _ 0 (P .records) (λ g _. upTo-idle _ 0 (P .recordUnits) (λ x _. upTo-idle _ 0 (P .sb) (λ y _. none-done columns _) (omega arith)) (omega arith)) (omega arith)
 
   rows-none : (k : ℕ) (s : List ℕ) → rowsOf (shown false P) k s ≡ s
   unfolding rowsOf
-  rows-none k = upTo-idle _ 0 (P .groups) (λ g _. upTo-idle _ 0 (P .sb) (λ y _. upTo-idle _ 0 (P .group) (λ x _. none-done rows _) (omega arith)) (omega arith)) (omega arith)
+  rows-none k = upTo-idle _ 0 (P .records) (λ g _. upTo-idle _ 0 (P .sb) (λ y _. upTo-idle _ 0 (P .recordUnits) (λ x _. none-done rows _) (omega arith)) (omega arith)) (omega arith)
 
   pub shown-cols : (on : Bool) (k : ℕ) (s : List ℕ) → colsOf (shown on P) k s ≡ cond on (colsOf P k s) s
   shown-cols true k s = refl

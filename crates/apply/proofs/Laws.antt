@@ -13,7 +13,7 @@ use Rattle.plane.specs.Three.{Three, colsCall, rowsCall}
 use Rattle.checks.specs.declared.Call.{Call}
 use Rattle.checks.specs.Call.{Lent, chromaOn, Filtered, chroma-u, chroma-v}
 use Rattle.checks.specs.Tests.{number}
-use Rattle.checks.proofs.Faults.{reflects-on}
+use Rattle.checks.proofs.FaultTests.{reflects-on}
 use Rattle.checks.proofs.Numbers.{numbers}
 use Rattle.apply.specs.Apply.{Limits, shown, planeAt, planesOf, threeOf, three, passCall, FilterAnswer}
 use Rattle.apply.specs.Promises.{passed, Promised, Promises}
@@ -23,7 +23,7 @@ use Rattle.apply.proofs.Answers.{shown-cols, shown-rows}
 
 module _ (c : Call) where
   abbrev Plain : Type 0
-  Plain = (¬ (c .layout ≡ 400)) × (¬ ((c .levelu ≡ 0) × (c .levelv ≡ 0)))
+  Plain = (¬ (c .layout ≡ 400)) × (¬ ((c .«level_u» ≡ 0) × (c .«level_v» ≡ 0)))
 
   plain-u : Filtered c 1 → Plain
   plain-u (chroma-u a b) = (a, b)

@@ -1,3 +1,3 @@
-pub mod Readies
+pub mod ReadyPlanes
 pub mod Answers
 pub mod Laws

@@ -17,37 +17,38 @@ use mathlib.Core.Path.{_≡_}
 use Prim.Native.Nat.{ℕ, _^_, _≤_}
 use lib.Dec.{eqb}
 use lib.ListN.{length}
+use Rattle.plane.specs.Line.{passOf}
 use Rattle.plane.specs.Plane.{Plane}
 use Rattle.plane.specs.Three.{Three, colsCall, rowsCall}
 use Rattle.filter.specs.declared.Component.{Component}
-use Rattle.filter.specs.Filter.{Tables, passOf, planeOf, sweepOf}
+use Rattle.filter.specs.Filter.{Tables, planeOf, sweepOf}
 use Rattle.filter.specs.Ready.{Stored, Fit, Under}
 use Rattle.checks.specs.declared.Call.{Call}
-use Rattle.checks.specs.Call.{Lent, w4, h4, sb4, ssx, ssy, strideOf, chromaOn, Shaped}
+use Rattle.checks.specs.Call.{Lent, w4, h4, sb4, ss-hor, ss-ver, strideOf, chromaOn, Shaped}
 use Rattle.checks.specs.Tests.{number}
 
 abbrev pub componentOf : Call → ℕ → Component
 componentOf c n =
     record {
       plane = n;
-      ssx = ssx c n;
-      ssy = ssy c n;
+      «ss_hor» = ss-hor c n;
+      «ss_ver» = ss-ver c n;
       w4 = record { 0 = w4 c };
       h4 = record { 0 = h4 c };
       sb4 = record { 0 = sb4 c };
       stride = strideOf c n;
-      pitch = c .pitch;
+      «level_stride» = c .«level_stride»;
     }
 
 abbrev pub shown : Bool → Plane → Plane
 shown on P =
     record {
       stride = P .stride;
-      group = P .group;
-      groups = P .groups;
+      recordUnits = P .recordUnits;
+      records = P .records;
       sb = P .sb;
       sbs = P .sbs;
-      high = P .high;
+      height = P .height;
       widths = P .widths;
       edge = λ d p. cond on (P .edge d p) none;
       rule = P .rule;
@@ -84,20 +85,20 @@ pub record FilterAnswer (c : Call) (l : Limits) (m : Lent) (r : ℕ) (after : Th
   pub planes : after ≡ cond (eqb r 0) (passCall c (planesOf c l m) (c .row) (threeOf m)) (threeOf m)
 
 abbrev pub callOf : Bool → ℕ → ℕ → ℕ → ℕ → ℕ → ℕ → ℕ → ℕ → ℕ → ℕ → ℕ → Call
-callOf rowwise depth luma-stride chroma-stride stride width height layout superblock level-u level-v row =
+callOf rowwise depth luma-stride chroma-stride level-stride width height layout superblock level-u level-v row =
     record {
       width = record { 0 = width };
       height = record { 0 = height };
       layout = layout;
       superblock = superblock;
       depth = depth;
-      levelu = level-u;
-      levelv = level-v;
+      «level_u» = level-u;
+      «level_v» = level-v;
       row = row;
       rowwise = rowwise;
-      stride = luma-stride;
-      uvstride = chroma-stride;
-      pitch = stride;
+      «luma_stride» = luma-stride;
+      «chroma_stride» = chroma-stride;
+      «level_stride» = level-stride;
     }
 
 -- ---- one plane

@@ -1,11 +1,11 @@
 // Columns and rows of one superblock row: `rav1d_loopfilter_sbrow_cols`, but for the tile correction, and `rav1d_loopfilter_sbrow_rows`.
 use checks::Call;
+use checks::faults::chroma_on;
+use checks::faults::hor;
+use checks::faults::stride_of;
+use checks::faults::ver;
 use checks::number_8;
 use checks::number_16;
-use checks::tests::chroma_on;
-use checks::tests::hor;
-use checks::tests::stride_of;
-use checks::tests::ver;
 use filter::Component;
 use units::Sample;
 use units::frame::superblock_units;
@@ -23,13 +23,13 @@ fn component(c: Call, n: usize) -> Component
 {
     Component {
         plane: n,
-        ssx: hor(c, n),
-        ssy: ver(c, n),
+        ss_hor: hor(c, n),
+        ss_ver: ver(c, n),
         w4: luma_units(c.width),
         h4: luma_units(c.height),
         sb4: superblock_units(c.superblock),
         stride: stride_of(c, n),
-        pitch: c.pitch,
+        level_stride: c.level_stride,
     }
 }
 
@@ -57,7 +57,8 @@ fn chroma_8(
     e: &[u8; 64],
     i: &[u8; 64],
 )
-    requires { ⌜ (c .depth ≡ 8) × (chromaOn c ≡ true → Ready c (tables (c .depth) (now levels) (now masks) (now e) (now i)) 1 (now u) × Ready c (tables (c .depth) (now levels) (now masks) (now e) (now i)) 2 (now v)) ⌝ }
+    requires { ⌜ (c .depth ≡ 8) × (chromaOn c ≡ true → Ready c (tables (c .depth) (now levels) (now masks) (now e) (now i)) 1 (now u)
+        × Ready c (tables (c .depth) (now levels) (now masks) (now e) (now i)) 2 (now v)) ⌝ }
     ensures u { λ _. ⌜ now (u .exit) ≡ sweptIf c (tables (c .depth) (now (levels .entry)) (now (masks .entry)) (now (e .entry)) (now (i .entry))) 1 (now (u .entry)) ⌝ }
     ensures v { λ _. ⌜ now (v .exit) ≡ sweptIf c (tables (c .depth) (now (levels .entry)) (now (masks .entry)) (now (e .entry)) (now (i .entry))) 2 (now (v .entry)) ⌝ }
 {
@@ -99,7 +100,7 @@ pub fn columns_8(
     v: &mut [u8],
     chroma_stride: usize,
     levels: &[u8],
-    stride: usize,
+    level_stride: usize,
     masks: &[u16],
     e: &[u8; 64],
     i: &[u8; 64],
@@ -111,7 +112,7 @@ pub fn columns_8(
     level_v: u32,
     row: u32,
 ) -> u32
-    ensures { λ r. ⌜ FilterAnswer (callOf false 8 «luma_stride» «chroma_stride» stride width height layout superblock «level_u» «level_v» row)
+    ensures { λ r. ⌜ FilterAnswer (callOf false 8 «luma_stride» «chroma_stride» «level_stride» width height layout superblock «level_u» «level_v» row)
         (limits (now (e .entry)) (now (i .entry)))
         (lent (now (luma .entry)) (now (u .entry)) (now (v .entry)) (now (levels .entry)) (now (masks .entry))) r
         (three (now (luma .exit)) (now (u .exit)) (now (v .exit))) ⌝ }
@@ -122,13 +123,13 @@ pub fn columns_8(
         layout: layout as usize,
         superblock: superblock as usize,
         depth: 8,
-        levelu: level_u as usize,
-        levelv: level_v as usize,
+        level_u: level_u as usize,
+        level_v: level_v as usize,
         row: row as usize,
         rowwise: false,
-        stride: luma_stride,
-        uvstride: chroma_stride,
-        pitch: stride,
+        luma_stride,
+        chroma_stride,
+        level_stride,
     };
     filter_8(luma, u, v, c, levels, masks, e, i)
 }
@@ -140,7 +141,7 @@ pub fn rows_8(
     v: &mut [u8],
     chroma_stride: usize,
     levels: &[u8],
-    stride: usize,
+    level_stride: usize,
     masks: &[u16],
     e: &[u8; 64],
     i: &[u8; 64],
@@ -152,7 +153,7 @@ pub fn rows_8(
     level_v: u32,
     row: u32,
 ) -> u32
-    ensures { λ r. ⌜ FilterAnswer (callOf true 8 «luma_stride» «chroma_stride» stride width height layout superblock «level_u» «level_v» row)
+    ensures { λ r. ⌜ FilterAnswer (callOf true 8 «luma_stride» «chroma_stride» «level_stride» width height layout superblock «level_u» «level_v» row)
         (limits (now (e .entry)) (now (i .entry)))
         (lent (now (luma .entry)) (now (u .entry)) (now (v .entry)) (now (levels .entry)) (now (masks .entry))) r
         (three (now (luma .exit)) (now (u .exit)) (now (v .exit))) ⌝ }
@@ -163,13 +164,13 @@ pub fn rows_8(
         layout: layout as usize,
         superblock: superblock as usize,
         depth: 8,
-        levelu: level_u as usize,
-        levelv: level_v as usize,
+        level_u: level_u as usize,
+        level_v: level_v as usize,
         row: row as usize,
         rowwise: true,
-        stride: luma_stride,
-        uvstride: chroma_stride,
-        pitch: stride,
+        luma_stride,
+        chroma_stride,
+        level_stride,
     };
     filter_8(luma, u, v, c, levels, masks, e, i)
 }
@@ -208,7 +209,8 @@ fn chroma_16(
     e: &[u8; 64],
     i: &[u8; 64],
 )
-    requires { ⌜ (chromaOn c ≡ true → Ready16 c (tables (c .depth) (now levels) (now masks) (now e) (now i)) 1 (now u) × Ready16 c (tables (c .depth) (now levels) (now masks) (now e) (now i)) 2 (now v)) ⌝ }
+    requires { ⌜ (chromaOn c ≡ true → Ready16 c (tables (c .depth) (now levels) (now masks) (now e) (now i)) 1 (now u)
+        × Ready16 c (tables (c .depth) (now levels) (now masks) (now e) (now i)) 2 (now v)) ⌝ }
     ensures u { λ _. ⌜ now (u .exit) ≡ sweptIf c (tables (c .depth) (now (levels .entry)) (now (masks .entry)) (now (e .entry)) (now (i .entry))) 1 (now (u .entry)) ⌝ }
     ensures v { λ _. ⌜ now (v .exit) ≡ sweptIf c (tables (c .depth) (now (levels .entry)) (now (masks .entry)) (now (e .entry)) (now (i .entry))) 2 (now (v .entry)) ⌝ }
 {
@@ -249,7 +251,7 @@ pub fn columns_16(
     v: &mut [u16],
     chroma_stride: usize,
     levels: &[u8],
-    stride: usize,
+    level_stride: usize,
     masks: &[u16],
     e: &[u8; 64],
     i: &[u8; 64],
@@ -262,7 +264,7 @@ pub fn columns_16(
     level_v: u32,
     row: u32,
 ) -> u32
-    ensures { λ r. ⌜ FilterAnswer (callOf false depth «luma_stride» «chroma_stride» stride width height layout superblock «level_u» «level_v» row)
+    ensures { λ r. ⌜ FilterAnswer (callOf false depth «luma_stride» «chroma_stride» «level_stride» width height layout superblock «level_u» «level_v» row)
         (limits (now (e .entry)) (now (i .entry)))
         (lent (now (luma .entry)) (now (u .entry)) (now (v .entry)) (now (levels .entry)) (now (masks .entry))) r
         (three (now (luma .exit)) (now (u .exit)) (now (v .exit))) ⌝ }
@@ -273,13 +275,13 @@ pub fn columns_16(
         layout: layout as usize,
         superblock: superblock as usize,
         depth,
-        levelu: level_u as usize,
-        levelv: level_v as usize,
+        level_u: level_u as usize,
+        level_v: level_v as usize,
         row: row as usize,
         rowwise: false,
-        stride: luma_stride,
-        uvstride: chroma_stride,
-        pitch: stride,
+        luma_stride,
+        chroma_stride,
+        level_stride,
     };
     filter_16(luma, u, v, c, levels, masks, e, i)
 }
@@ -291,7 +293,7 @@ pub fn rows_16(
     v: &mut [u16],
     chroma_stride: usize,
     levels: &[u8],
-    stride: usize,
+    level_stride: usize,
     masks: &[u16],
     e: &[u8; 64],
     i: &[u8; 64],
@@ -304,7 +306,7 @@ pub fn rows_16(
     level_v: u32,
     row: u32,
 ) -> u32
-    ensures { λ r. ⌜ FilterAnswer (callOf true depth «luma_stride» «chroma_stride» stride width height layout superblock «level_u» «level_v» row)
+    ensures { λ r. ⌜ FilterAnswer (callOf true depth «luma_stride» «chroma_stride» «level_stride» width height layout superblock «level_u» «level_v» row)
         (limits (now (e .entry)) (now (i .entry)))
         (lent (now (luma .entry)) (now (u .entry)) (now (v .entry)) (now (levels .entry)) (now (masks .entry))) r
         (three (now (luma .exit)) (now (u .exit)) (now (v .exit))) ⌝ }
@@ -315,13 +317,13 @@ pub fn rows_16(
         layout: layout as usize,
         superblock: superblock as usize,
         depth,
-        levelu: level_u as usize,
-        levelv: level_v as usize,
+        level_u: level_u as usize,
+        level_v: level_v as usize,
         row: row as usize,
         rowwise: true,
-        stride: luma_stride,
-        uvstride: chroma_stride,
-        pitch: stride,
+        luma_stride,
+        chroma_stride,
+        level_stride,
     };
     filter_16(luma, u, v, c, levels, masks, e, i)
 }

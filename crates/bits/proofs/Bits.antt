@@ -4,7 +4,8 @@ use mathlib.Core.Bool.{true, false, _&&_, _||_, false≢true}
 use mathlib.Core.Logic.{by-cases, _⊎_, inl, inr, ⊎-elim}
 use Prim.Native.Nat.{ℕ, zero, suc, _+_, _-_, _*_, _/_, _%_, _^_, _≤_, _<_, suc-le-suc, min, max}
 use native.Mathlib.Omega.{arith}
-use native.Mathlib.Nat.{mod-lt, pow-suc, div-self, mul-div-cancel, mul-mod-left, div-eq-of-lt, mul-assoc, add-comm, add-zero, add-mul-div-right, mul-add-mod-self-right, div-one, not-suc-le-zero, le-of-suc-le-suc, zero-lt-suc, zero-mul, one-mul, sub-zero}
+use native.Mathlib.Nat.{mod-lt, pow-suc, div-self, mul-div-cancel, mul-mod-left, div-eq-of-lt, mul-assoc, add-comm, add-zero, add-mul-div-right}
+use native.Mathlib.Nat.{mul-add-mod-self-right, div-one, not-suc-le-zero, le-of-suc-le-suc, zero-lt-suc, zero-mul, one-mul, sub-zero}
 use native.Mathlib.Numerals.{one-add}
 use native.Mathlib.Decide.{ℕ-discrete, decLt}
 use lib.Dec.{eqb, ltb, leb}

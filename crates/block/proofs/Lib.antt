@@ -1,3 +1,3 @@
-pub mod Passed
-pub mod Free
+pub mod TestsPassed
+pub mod NoFault
 pub mod Numbers

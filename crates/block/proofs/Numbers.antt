@@ -19,7 +19,7 @@ use Rattle.units.specs.Layout.{Layout}
 use Rattle.units.specs.Frame.{frameRecords}
 use Rattle.units.proofs.Tests.{reflects-layout, reflects-chroma, reflects-frame, reflects-levels, reflects-masks}
 use Rattle.block.specs.declared.Block.{Block}
-use Rattle.block.specs.Block.{w4, h4, wide, high, ssx, ssy, bw4, bh4, cbw4, cbh4, Lent}
+use Rattle.block.specs.Block.{w4, h4, blockWidth, blockHeight, ss-hor, ss-ver, bw4, bh4, cbw4, cbh4, Lent}
 use Rattle.block.specs.Tests.{shapeBad, codeBad, placeBad, txBad, maxTxBad, refBad, contextBad, lumaContextsBad, chromaContextsBad, lengthBad, number}
 use Rattle.block.specs.Faults.{Multiple, ShapeFault, layout-other, size-outside, pair-at-400}
 use Rattle.block.specs.Faults.{CodeFault, size-above, tx-above, uvtx-above, PlaceFault, x-between, y-between, x-past, y-past}
@@ -37,7 +37,8 @@ module _ (b : Block) where
       settled : ¬ (¬ (b .layout ≡ 400)) → b .layout ≡ 400
       settled n = by-cases (ℕ-discrete (b .layout) 400) (λ e. e) (λ f. absurd (n f))
 
-      plain : ShapeFault b → ((¬ Layout (b .layout)) ⊎ (¬ (((1 ≤ b .width .0) × (b .width .0 ≤ 16384)) × ((1 ≤ b .height .0) × (b .height .0 ≤ 16384))))) ⊎ ((b .chroma ≡ true) × (¬ (¬ (b .layout ≡ 400))))
+      plain : ShapeFault b → ((¬ Layout (b .layout)) ⊎ (¬ (((1 ≤ b .width .0) × (b .width .0 ≤ 16384)) × ((1 ≤ b .height .0) × (b .height .0 ≤ 16384)))))
+          ⊎ ((b .chroma ≡ true) × (¬ (¬ (b .layout ≡ 400))))
       plain (layout-other n) = inl (inl n)
       plain (size-outside n) = inl (inr n)
       plain (pair-at-400 c e) = inr (c, λ n. n e)
@@ -64,10 +65,11 @@ module _ (b : Block) where
   reflects-place =
       reflects-as (record { only = ⊎-elim (⊎-elim x-between y-between) (⊎-elim x-past y-past); always = plain })
       (reflects-or
-      (reflects-or (reflects-not (reflects-as (multiple (b .x .0) (wide b)) (reflects-eqb (b .x .0 % wide b) 0))) (reflects-not (reflects-as (multiple (b .y .0) (high b)) (reflects-eqb (b .y .0 % high b) 0))))
+      (reflects-or (reflects-not (reflects-as (multiple (b .x .0) (blockWidth b)) (reflects-eqb (b .x .0 % blockWidth b) 0)))
+      (reflects-not (reflects-as (multiple (b .y .0) (blockHeight b)) (reflects-eqb (b .y .0 % blockHeight b) 0))))
       (reflects-or (reflects-ltb (w4 b) (b .x .0)) (reflects-ltb (h4 b) (b .y .0))))
     where
-      plain : PlaceFault b → ((¬ Multiple (b .x .0) (wide b)) ⊎ (¬ Multiple (b .y .0) (high b))) ⊎ ((w4 b < b .x .0) ⊎ (h4 b < b .y .0))
+      plain : PlaceFault b → ((¬ Multiple (b .x .0) (blockWidth b)) ⊎ (¬ Multiple (b .y .0) (blockHeight b))) ⊎ ((w4 b < b .x .0) ⊎ (h4 b < b .y .0))
       plain (x-between n) = inl (inl n)
       plain (y-between n) = inl (inr n)
       plain (x-past h) = inr (inl h)
@@ -76,12 +78,12 @@ module _ (b : Block) where
   reflects-tx : Reflects (txBad b) (TxFault b)
   reflects-tx =
       reflects-as (record { only = ⊎-elim (⊎-elim wider higher) (λ p. ⊎-elim (uv-wider (p .0)) (uv-higher (p .0)) (p .1)); always = plain })
-      (reflects-or (reflects-or (reflects-ltb (wide b) (Tx_Wide (b .tx))) (reflects-ltb (high b) (Tx_High (b .tx))))
+      (reflects-or (reflects-or (reflects-ltb (blockWidth b) (Tx_Wide (b .tx))) (reflects-ltb (blockHeight b) (Tx_High (b .tx))))
       (reflects-and (reflects-flag (b .chroma))
-      (reflects-or (reflects-ltb (chromaUnits (ssx b) (wide b)) (Tx_Wide (b .uvtx))) (reflects-ltb (chromaUnits (ssy b) (high b)) (Tx_High (b .uvtx))))))
+      (reflects-or (reflects-ltb (chromaUnits (ss-hor b) (blockWidth b)) (Tx_Wide (b .uvtx))) (reflects-ltb (chromaUnits (ss-ver b) (blockHeight b)) (Tx_High (b .uvtx))))))
     where
-      plain : TxFault b → ((wide b < Tx_Wide (b .tx)) ⊎ (high b < Tx_High (b .tx)))
-          ⊎ ((b .chroma ≡ true) × ((chromaUnits (ssx b) (wide b) < Tx_Wide (b .uvtx)) ⊎ (chromaUnits (ssy b) (high b) < Tx_High (b .uvtx))))
+      plain : TxFault b → ((blockWidth b < Tx_Wide (b .tx)) ⊎ (blockHeight b < Tx_High (b .tx)))
+          ⊎ ((b .chroma ≡ true) × ((chromaUnits (ss-hor b) (blockWidth b) < Tx_Wide (b .uvtx)) ⊎ (chromaUnits (ss-ver b) (blockHeight b) < Tx_High (b .uvtx))))
       plain (wider h) = inl (inl h)
       plain (higher h) = inl (inr h)
       plain (uv-wider c h) = inr (c, inl h)
@@ -140,24 +142,24 @@ module _ (b : Block) (m : Lent) where
       plain (above-uv c s f) = inr ((c, s), inl f)
       plain (left-uv c s f) = inr ((c, s), inr f)
 
-  reflects-lengths : (stride : ℕ) → Reflects (lengthBad b stride (length (m .levels)) (length (m .masks))) (LengthFault b stride m)
-  reflects-lengths stride =
+  reflects-lengths : (level-stride : ℕ) → Reflects (lengthBad b level-stride (length (m .levels)) (length (m .masks))) (LengthFault b level-stride m)
+  reflects-lengths level-stride =
       reflects-as (record { only = ⊎-elim short (λ n. masks-short (omega arith)); always = plain })
-      (reflects-or (reflects-not (reflects-levels (length (m .levels)) stride (w4 b) (h4 b))) (reflects-not (reflects-masks (length (m .masks)) (w4 b) (h4 b))))
+      (reflects-or (reflects-not (reflects-levels (length (m .levels)) level-stride (w4 b) (h4 b))) (reflects-not (reflects-masks (length (m .masks)) (w4 b) (h4 b))))
     where
-      short : ¬ ((w4 b ≤ stride) × (4 * stride * h4 b ≤ length (m .levels))) → LengthFault b stride m
+      short : ¬ ((w4 b ≤ level-stride) × (4 * level-stride * h4 b ≤ length (m .levels))) → LengthFault b level-stride m
       short n =
-          by-cases (decLt stride (w4 b)) stride-below
-          (λ f. let g : ¬ (4 * stride * h4 b ≤ length (m .levels)) = λ h. n (omega arith, h) in levels-short (omega arith))
+          by-cases (decLt level-stride (w4 b)) stride-below
+          (λ f. let g : ¬ (4 * level-stride * h4 b ≤ length (m .levels)) = λ h. n (omega arith, h) in levels-short (omega arith))
 
-      plain : LengthFault b stride m → (¬ ((w4 b ≤ stride) × (4 * stride * h4 b ≤ length (m .levels)))) ⊎ (¬ (640 * frameRecords (w4 b) (h4 b) ≤ length (m .masks)))
+      plain : LengthFault b level-stride m → (¬ ((w4 b ≤ level-stride) × (4 * level-stride * h4 b ≤ length (m .levels)))) ⊎ (¬ (640 * frameRecords (w4 b) (h4 b) ≤ length (m .masks)))
       plain (stride-below h) = inl (λ p. omega (arith, p .0))
       plain (levels-short h) = inl (λ p. omega (arith, p .1))
       plain (masks-short h) = inr (λ p. omega arith)
 
 -- ---- the table
 
-module _ (b : Block) (stride : ℕ) (m : Lent) where
+module _ (b : Block) (level-stride : ℕ) (m : Lent) where
   abbrev rows : List Row
   rows =
       row 4 (reflects-shape b)
@@ -168,7 +170,7 @@ module _ (b : Block) (stride : ℕ) (m : Lent) where
       ∷ row 5 (reflects-reference b)
       ∷ row 6 (reflects-luma b m)
       ∷ row 6 (reflects-uv b m)
-      ∷ row 7 (reflects-lengths b m stride)
+      ∷ row 7 (reflects-lengths b m level-stride)
       ∷ []
 
   -- the rows of 5, and X after them
@@ -185,17 +187,17 @@ module _ (b : Block) (stride : ℕ) (m : Lent) where
   out : {X Y : Type 0} → (BlockFault b → Y) → (X → Y) → Five X → Y
   out f g = ⊎-elim (λ c. f (code c)) (⊎-elim (λ p. f (place p)) (⊎-elim (λ t. f (tx t)) (⊎-elim (λ l. f (largest l)) g)))
 
-  pub exactly-4 : Exactly (number b stride m ≡ 4) (ShapeFault b)
+  pub exactly-4 : Exactly (number b level-stride m ≡ 4) (ShapeFault b)
   unfolding number
   exactly-4 = gives rows refl 4 tt
 
-  pub exactly-5 : Exactly (number b stride m ≡ 5) (BlockFault b × (¬ ShapeFault b))
+  pub exactly-5 : Exactly (number b level-stride m ≡ 5) (BlockFault b × (¬ ShapeFault b))
   unfolding number
   exactly-5 =
       exactly-then (gives rows refl 5 tt)
       (record { only = λ p. (out (λ f. f) reference (p .0), p .1); always = λ p. (into (λ r. r) (p .0), p .1) })
 
-  pub exactly-6 : Exactly (number b stride m ≡ 6) (ContextsFault b m × (¬ BlockFault b) × (¬ ShapeFault b))
+  pub exactly-6 : Exactly (number b level-stride m ≡ 6) (ContextsFault b m × (¬ BlockFault b) × (¬ ShapeFault b))
   unfolding number
   exactly-6 =
       exactly-then (gives rows refl 6 tt)
@@ -204,7 +206,7 @@ module _ (b : Block) (stride : ℕ) (m : Lent) where
         always = λ p. (contexts b m .always (p .0), ⊎-elim (p .2) (out (p .1) (λ r. p .1 (reference r))));
       })
 
-  pub exactly-7 : Exactly (number b stride m ≡ 7) (LengthFault b stride m × (¬ ContextsFault b m) × (¬ BlockFault b) × (¬ ShapeFault b))
+  pub exactly-7 : Exactly (number b level-stride m ≡ 7) (LengthFault b level-stride m × (¬ ContextsFault b m) × (¬ BlockFault b) × (¬ ShapeFault b))
   unfolding number
   exactly-7 =
       exactly-then (gives rows refl 7 tt)
@@ -213,7 +215,7 @@ module _ (b : Block) (stride : ℕ) (m : Lent) where
         always = λ p. (p .0, ⊎-elim (p .3) (out (p .2) (⊎-elim (λ r. p .2 (reference r)) (λ c. p .1 (contexts b m .only c)))));
       })
 
-  pub exactly-0 : Exactly (number b stride m ≡ 0) ((¬ LengthFault b stride m) × (¬ ContextsFault b m) × (¬ BlockFault b) × (¬ ShapeFault b))
+  pub exactly-0 : Exactly (number b level-stride m ≡ 0) ((¬ LengthFault b level-stride m) × (¬ ContextsFault b m) × (¬ BlockFault b) × (¬ ShapeFault b))
   unfolding number
   exactly-0 =
       exactly-then (gives-0 rows refl)

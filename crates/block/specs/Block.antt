@@ -1,7 +1,7 @@
 -- A block to record, document 01, "Recording": its sizes, what of it is seen, and the memory that is lent for it.
 --   w4, h4                    the frame, in luma units
---   wide, high                the block, in luma units
---   ssx, ssy                  ss_hor and ss_ver of the frame's layout
+--   blockWidth, blockHeight                the block, in luma units
+--   ss-hor, ss-ver                  ss_hor and ss_ver of the frame's layout
 --   bw4, bh4                  the visible size, in luma units: the block cut at w4 and h4
 --   chromaSide                in chroma units: of all units from u on, what n of them come to, both rounded up
 --   cbw4, cbh4                the visible size, in chroma units
@@ -23,32 +23,32 @@ w4 b = unitsOf (b .width .0)
 abbrev pub h4 : Block → ℕ
 h4 b = unitsOf (b .height .0)
 
-abbrev pub wide : Block → ℕ
-wide b = Num_4x4_Blocks_Wide (b .size)
+abbrev pub blockWidth : Block → ℕ
+blockWidth b = Num_4x4_Blocks_Wide (b .size)
 
-abbrev pub high : Block → ℕ
-high b = Num_4x4_Blocks_High (b .size)
+abbrev pub blockHeight : Block → ℕ
+blockHeight b = Num_4x4_Blocks_High (b .size)
 
-abbrev pub ssx : Block → ℕ
-ssx b = ssHor (b .layout)
+abbrev pub ss-hor : Block → ℕ
+ss-hor b = ssHor (b .layout)
 
-abbrev pub ssy : Block → ℕ
-ssy b = ssVer (b .layout)
+abbrev pub ss-ver : Block → ℕ
+ss-ver b = ssVer (b .layout)
 
 unfoldable pub bw4 : Block → ℕ
-bw4 b = min (w4 b - b .x .0) (wide b)
+bw4 b = min (w4 b - b .x .0) (blockWidth b)
 
 unfoldable pub bh4 : Block → ℕ
-bh4 b = min (h4 b - b .y .0) (high b)
+bh4 b = min (h4 b - b .y .0) (blockHeight b)
 
 abbrev pub chromaSide : ℕ → ℕ → ℕ → ℕ → ℕ
 chromaSide all u n ss = min (chromaUnits ss all - chromaUnit ss u) (chromaUnits ss n)
 
 unfoldable pub cbw4 : Block → ℕ
-cbw4 b = chromaSide (w4 b) (b .x .0) (wide b) (ssx b)
+cbw4 b = chromaSide (w4 b) (b .x .0) (blockWidth b) (ss-hor b)
 
 unfoldable pub cbh4 : Block → ℕ
-cbh4 b = chromaSide (h4 b) (b .y .0) (high b) (ssy b)
+cbh4 b = chromaSide (h4 b) (b .y .0) (blockHeight b) (ss-ver b)
 
 abbrev pub seesLuma : Block → Bool
 seesLuma b = ltb 0 (bw4 b) && ltb 0 (bh4 b)

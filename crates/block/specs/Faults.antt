@@ -15,7 +15,7 @@ use Rattle.units.specs.Units.{chromaUnits}
 use Rattle.units.specs.Layout.{Layout}
 use Rattle.units.specs.Frame.{frameRecords}
 use Rattle.block.specs.declared.Block.{Block}
-use Rattle.block.specs.Block.{w4, h4, wide, high, ssx, ssy, bw4, bh4, cbw4, cbh4, Lent}
+use Rattle.block.specs.Block.{w4, h4, blockWidth, blockHeight, ss-hor, ss-ver, bw4, bh4, cbw4, cbh4, Lent}
 
 abbrev pub Multiple : ℕ → ℕ → Type 0
 Multiple u n = (k : ℕ) × (u ≡ k * n)
@@ -31,16 +31,16 @@ pub data CodeFault (b : Block) : Type 0 where
   uvtx-above : b .chroma ≡ true → 18 < b .uvtx → CodeFault b
 
 pub data PlaceFault (b : Block) : Type 0 where
-  x-between : ¬ Multiple (b .x .0) (wide b) → PlaceFault b
-  y-between : ¬ Multiple (b .y .0) (high b) → PlaceFault b
+  x-between : ¬ Multiple (b .x .0) (blockWidth b) → PlaceFault b
+  y-between : ¬ Multiple (b .y .0) (blockHeight b) → PlaceFault b
   x-past : w4 b < b .x .0 → PlaceFault b
   y-past : h4 b < b .y .0 → PlaceFault b
 
 pub data TxFault (b : Block) : Type 0 where
-  wider : wide b < Tx_Wide (b .tx) → TxFault b
-  higher : high b < Tx_High (b .tx) → TxFault b
-  uv-wider : b .chroma ≡ true → chromaUnits (ssx b) (wide b) < Tx_Wide (b .uvtx) → TxFault b
-  uv-higher : b .chroma ≡ true → chromaUnits (ssy b) (high b) < Tx_High (b .uvtx) → TxFault b
+  wider : blockWidth b < Tx_Wide (b .tx) → TxFault b
+  higher : blockHeight b < Tx_High (b .tx) → TxFault b
+  uv-wider : b .chroma ≡ true → chromaUnits (ss-hor b) (blockWidth b) < Tx_Wide (b .uvtx) → TxFault b
+  uv-higher : b .chroma ≡ true → chromaUnits (ss-ver b) (blockHeight b) < Tx_High (b .uvtx) → TxFault b
 
 pub data LargestFault (b : Block) : Type 0 where
   neither : b .inter ≡ true → ¬ (b .tx ≡ Max_Tx_Size_Rect (b .size)) → ¬ (b .tx ≡ 0) → LargestFault b
@@ -65,7 +65,7 @@ pub data ContextsFault (b : Block) (m : Lent) : Type 0 where
   above-uv : b .chroma ≡ true → (0 < cbw4 b) × (0 < cbh4 b) → ContextFault (cbw4 b) 1 (m .above-uv) → ContextsFault b m
   left-uv : b .chroma ≡ true → (0 < cbw4 b) × (0 < cbh4 b) → ContextFault (cbh4 b) 1 (m .left-uv) → ContextsFault b m
 
-pub data LengthFault (b : Block) (stride : ℕ) (m : Lent) : Type 0 where
-  stride-below : stride < w4 b → LengthFault b stride m
-  levels-short : length (m .levels) < 4 * stride * h4 b → LengthFault b stride m
-  masks-short : length (m .masks) < 640 * frameRecords (w4 b) (h4 b) → LengthFault b stride m
+pub data LengthFault (b : Block) (level-stride : ℕ) (m : Lent) : Type 0 where
+  stride-below : level-stride < w4 b → LengthFault b level-stride m
+  levels-short : length (m .levels) < 4 * level-stride * h4 b → LengthFault b level-stride m
+  masks-short : length (m .masks) < 640 * frameRecords (w4 b) (h4 b) → LengthFault b level-stride m

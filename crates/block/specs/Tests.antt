@@ -8,7 +8,7 @@
 --   blockBad              any of 5 but codeBad
 --   contextBad n most c   the context c is shorter than n, or has a value above most among them
 --   lumaContextsBad, chromaContextsBad, contextsBad     6, in a plane in which units are recorded, and in either
---   lengthBad             7: levels, their stride, masks
+--   lengthBad             7: levels, their level-stride, masks
 --   number                the number of the first of them
 use mathlib.Core.Bool.{Bool, cond, not, _&&_, _||_}
 use mathlib.Core.List.{List}
@@ -22,7 +22,7 @@ use Rattle.units.specs.Layout.{layoutOk, hasChroma}
 use Rattle.units.specs.Frame.{frameOk}
 use Rattle.units.specs.Memory.{levelsOk, masksOk}
 use Rattle.block.specs.declared.Block.{Block}
-use Rattle.block.specs.Block.{w4, h4, wide, high, ssx, ssy, bw4, bh4, cbw4, cbh4, seesLuma, seesChroma, Lent}
+use Rattle.block.specs.Block.{w4, h4, blockWidth, blockHeight, ss-hor, ss-ver, bw4, bh4, cbw4, cbh4, seesLuma, seesChroma, Lent}
 
 abbrev pub shapeBad : Block → Bool
 shapeBad b = (not (layoutOk (b .layout)) || not (frameOk (b .width .0) (b .height .0))) || (b .chroma && not (hasChroma (b .layout)))
@@ -31,15 +31,15 @@ abbrev pub codeBad : Block → Bool
 codeBad b = (ltb 21 (b .size) || ltb 18 (b .tx)) || (b .chroma && ltb 18 (b .uvtx))
 
 abbrev pub placeBad : Block → Bool
-placeBad b = (not (eqb (b .x .0 % wide b) 0) || not (eqb (b .y .0 % high b) 0)) || (ltb (w4 b) (b .x .0) || ltb (h4 b) (b .y .0))
+placeBad b = (not (eqb (b .x .0 % blockWidth b) 0) || not (eqb (b .y .0 % blockHeight b) 0)) || (ltb (w4 b) (b .x .0) || ltb (h4 b) (b .y .0))
 
 abbrev pub lumaTxBad : Block → Bool
-lumaTxBad b = ltb (wide b) (Tx_Wide (b .tx)) || ltb (high b) (Tx_High (b .tx))
+lumaTxBad b = ltb (blockWidth b) (Tx_Wide (b .tx)) || ltb (blockHeight b) (Tx_High (b .tx))
 
 abbrev pub chromaTxBad : Block → Bool
 chromaTxBad b =
     b .chroma
-    && (ltb (chromaUnits (ssx b) (wide b)) (Tx_Wide (b .uvtx)) || ltb (chromaUnits (ssy b) (high b)) (Tx_High (b .uvtx)))
+    && (ltb (chromaUnits (ss-hor b) (blockWidth b)) (Tx_Wide (b .uvtx)) || ltb (chromaUnits (ss-ver b) (blockHeight b)) (Tx_High (b .uvtx)))
 
 abbrev pub txBad : Block → Bool
 txBad b = lumaTxBad b || chromaTxBad b
@@ -66,10 +66,10 @@ abbrev pub contextsBad : Block → List ℕ → List ℕ → List ℕ → List �
 contextsBad b a l a-uv l-uv = lumaContextsBad b a l || chromaContextsBad b a-uv l-uv
 
 abbrev pub lengthBad : Block → ℕ → ℕ → ℕ → Bool
-lengthBad b stride levels masks = not (levelsOk levels stride (w4 b) (h4 b)) || not (masksOk masks (w4 b) (h4 b))
+lengthBad b level-stride levels masks = not (levelsOk levels level-stride (w4 b) (h4 b)) || not (masksOk masks (w4 b) (h4 b))
 
 unfoldable pub number : Block → ℕ → Lent → ℕ
-number b stride m =
+number b level-stride m =
     cond (shapeBad b) 4
     (cond (codeBad b) 5
     (cond (placeBad b) 5
@@ -78,4 +78,4 @@ number b stride m =
     (cond (refBad b) 5
     (cond (lumaContextsBad b (m .above) (m .left)) 6
     (cond (chromaContextsBad b (m .above-uv) (m .left-uv)) 6
-    (cond (lengthBad b stride (length (m .levels)) (length (m .masks))) 7 0))))))))
+    (cond (lengthBad b level-stride (length (m .levels)) (length (m .masks))) 7 0))))))))

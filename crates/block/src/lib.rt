@@ -1,6 +1,6 @@
 // A block to record: its visible size in luma and chroma units, and the number that refuses it.
+pub mod faults;
 pub mod number;
-pub mod tests;
 
 use units::ChromaUnit;
 use units::LumaUnit;
@@ -17,7 +17,7 @@ ghost use mathlib.Core.Path.{_≡_};
 ghost use mathlib.Core.Bool.{_&&_};
 ghost use Prim.Native.Nat.{_≤_};
 ghost use lib.Dec.{ltb};
-ghost use Rattle.block.specs.Block.{w4, h4, wide, high, bw4, bh4, chromaSide, cbw4, cbh4, Sides};
+ghost use Rattle.block.specs.Block.{w4, h4, blockWidth, blockHeight, bw4, bh4, chromaSide, cbw4, cbh4, Sides};
 
 // The frame, the block's place, codes and chroma pair; of an intra block skip, reference and mode are 0.
 pub struct Block {
@@ -38,7 +38,7 @@ pub struct Block {
 
 // Here and below n is the block's side.
 pub fn luma_across(b: Block, n: LumaUnit) -> LumaUnit
-    requires { ⌜ Sides b × (b .x .0 ≤ w4 b) × (n .0 ≡ wide b) ⌝ }
+    requires { ⌜ Sides b × (b .x .0 ≤ w4 b) × (n .0 ≡ blockWidth b) ⌝ }
     ensures { λ r. ⌜ r .0 ≡ bw4 b ⌝ }
 {
     let rest = luma_units(b.width).0 - b.x.0;
@@ -53,7 +53,7 @@ pub fn luma_wide(b: Block) -> LumaUnit
 }
 
 pub fn luma_down(b: Block, n: LumaUnit) -> LumaUnit
-    requires { ⌜ Sides b × (b .y .0 ≤ h4 b) × (n .0 ≡ high b) ⌝ }
+    requires { ⌜ Sides b × (b .y .0 ≤ h4 b) × (n .0 ≡ blockHeight b) ⌝ }
     ensures { λ r. ⌜ r .0 ≡ bh4 b ⌝ }
 {
     let below = luma_units(b.height).0 - b.y.0;
@@ -79,7 +79,7 @@ fn chroma_side(all: LumaUnit, u: LumaUnit, n: LumaUnit, ss: usize) -> ChromaUnit
 }
 
 pub fn chroma_across(b: Block, n: LumaUnit) -> ChromaUnit
-    requires { ⌜ Sides b × (b .x .0 ≤ w4 b) × (n .0 ≡ wide b) ⌝ }
+    requires { ⌜ Sides b × (b .x .0 ≤ w4 b) × (n .0 ≡ blockWidth b) ⌝ }
     ensures { λ r. ⌜ r .0 ≡ cbw4 b ⌝ }
 {
     chroma_side(luma_units(b.width), b.x, n, ss_hor(b.layout))
@@ -93,7 +93,7 @@ pub fn chroma_wide(b: Block) -> ChromaUnit
 }
 
 pub fn chroma_down(b: Block, n: LumaUnit) -> ChromaUnit
-    requires { ⌜ Sides b × (b .y .0 ≤ h4 b) × (n .0 ≡ high b) ⌝ }
+    requires { ⌜ Sides b × (b .y .0 ≤ h4 b) × (n .0 ≡ blockHeight b) ⌝ }
     ensures { λ r. ⌜ r .0 ≡ cbh4 b ⌝ }
 {
     chroma_side(luma_units(b.height), b.y, n, ss_ver(b.layout))

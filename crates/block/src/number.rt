@@ -1,9 +1,9 @@
-// The number of a block: of the tests, in their order, the first that it fails.
-use super::tests::block_bad;
-use super::tests::code_bad;
-use super::tests::contexts_bad;
-use super::tests::length_bad;
-use super::tests::shape_bad;
+// The number of a block: of the faults, in their order, the first that it fails.
+use super::faults::block_bad;
+use super::faults::code_bad;
+use super::faults::contexts_bad;
+use super::faults::length_bad;
+use super::faults::shape_bad;
 use crate::Block;
 use units::numbers::BLOCK;
 use units::numbers::CONTEXT;
@@ -18,7 +18,7 @@ ghost use Rattle.block.specs.Tests.{number};
 
 pub fn number(
     b: Block,
-    stride: usize,
+    level_stride: usize,
     levels: &[u8],
     masks: &[u16],
     above: &[u8],
@@ -26,7 +26,7 @@ pub fn number(
     above_uv: &[u8],
     left_uv: &[u8],
 ) -> u32
-    ensures { λ r. ⌜ r ≡ number b stride (lent (now (levels .entry)) (now (masks .entry)) (now (above .entry)) (now (left .entry)) (now («above_uv» .entry)) (now («left_uv» .entry))) ⌝ }
+    ensures { λ r. ⌜ r ≡ number b «level_stride» (lent (now (levels .entry)) (now (masks .entry)) (now (above .entry)) (now (left .entry)) (now («above_uv» .entry)) (now («left_uv» .entry))) ⌝ }
 {
     if shape_bad(b) {
         return SHAPE;
@@ -42,7 +42,7 @@ pub fn number(
     if contexts_bad(b, w, h, above, left, above_uv, left_uv) {
         return CONTEXT;
     }
-    if length_bad(b, stride, levels.len(), masks.len()) {
+    if length_bad(b, level_stride, levels.len(), masks.len()) {
         return LENGTH;
     }
     DONE

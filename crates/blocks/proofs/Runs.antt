@@ -6,8 +6,8 @@ use Prim.Native.Nat.{ℕ, _≤_, _<_}
 use Rattle.loops.specs.Run.{All}
 use Rattle.loops.proofs.Closed.{all-at}
 use Rattle.standard.specs.Edge.{Frame}
-use Rattle.plane.specs.Line.{Pass, columns}
-use Rattle.edges.specs.Edges.{Grid, other}
+use Rattle.plane.specs.Line.{Pass, columns, other}
+use Rattle.edges.specs.Edges.{Grid}
 use Rattle.block.specs.declared.Block.{Block}
 use Rattle.block.specs.Block.{Lent}
 use Rattle.agree.specs.Legal.{classOf}
@@ -21,14 +21,14 @@ use Rattle.drawn.specs.Run.{State, contextIn, Seen, partIn, partsIn, Draws, Sam
 use Rattle.drawn.proofs.Tiles.{whose}
 use Rattle.blocks.specs.Laid.{Calls, done, call, Area, axisOf, tileIn, blockIn, blocksIn, Laid, Drawn}
 
-module _ (D : Frame) (plane stride : ℕ) (G : Grid) (A : Area) (sx sy : ℕ) (stateOf : Lent → State) (seenOf : Call → Lent → Seen) (seesIt : Block → Bool)
+module _ (D : Frame) (plane level-stride : ℕ) (G : Grid) (A : Area) (sx sy : ℕ) (stateOf : Lent → State) (seenOf : Call → Lent → Seen) (seesIt : Block → Bool)
     (Ok : Call → Type 0) (Long : Lent → Type 0)
-    (draws : (q : Call) (m n : Lent) → Records stride q m n → Ok q → Long m → seesIt (q .block) ≡ true → Draws D plane G (seenOf q m) (stateOf m) (stateOf n))
-    (same : (q : Call) (m n : Lent) → Records stride q m n → Ok q → seesIt (q .block) ≡ false → Same G (stateOf m) (stateOf n))
-    (stays : (q : Call) (m n : Lent) → Records stride q m n → Ok q → Long m → Long n)
+    (draws : (q : Call) (m n : Lent) → Records level-stride q m n → Ok q → Long m → seesIt (q .block) ≡ true → Draws D plane G (seenOf q m) (stateOf m) (stateOf n))
+    (same : (q : Call) (m n : Lent) → Records level-stride q m n → Ok q → seesIt (q .block) ≡ false → Same G (stateOf m) (stateOf n))
+    (stays : (q : Call) (m n : Lent) → Records level-stride q m n → Ok q → Long m → Long n)
     (sees-is : (q : Call) → Ok q → (d : Pass) → sees (axisOf A sx sy d) (axisOf A sx sy (other d)) (blockIn d (q .block)) ≡ seesIt (q .block))
     (part-is : (q : Call) (m : Lent) → Ok q → (d : Pass) → partIn G d (seenOf q m) ≡ part (axisOf A sx sy d) (axisOf A sx sy (other d)) (blockIn d (q .block)))
-    (lies : (q : Call) (m n : Lent) → Records stride q m n → Ok q → seesIt (q .block) ≡ true → (x y : ℕ) → Covers (partIn G columns (seenOf q m)) x y → Lies D plane x y) where
+    (lies : (q : Call) (m n : Lent) → Records level-stride q m n → Ok q → seesIt (q .block) ≡ true → (x y : ℕ) → Covers (partIn G columns (seenOf q m)) x y → Lies D plane x y) where
   -- what the plane shows
   abbrev shown : Pass → Call → Part
   shown d q = part (axisOf A sx sy d) (axisOf A sx sy (other d)) (blockIn d (q .block))
@@ -42,7 +42,7 @@ module _ (D : Frame) (plane stride : ℕ) (G : Grid) (A : Area) (sx sy : ℕ) (s
     parts : (d : Pass) → partsIn G d blocks ≡ allShown d l
     lie : (b : Seen) → List·Memᴰ b blocks → (x y : ℕ) → Covers (partIn G columns b) x y → Lies D plane x y
 
-  ran : (l : List Call) (m n : Lent) → Calls stride l m n → All Ok l → Long m → Ran l m n
+  ran : (l : List Call) (m n : Lent) → Calls level-stride l m n → All Ok l → Long m → Ran l m n
   ran l m n (done _) o h = record { blocks = []; run = run.done _; parts = λ d. refl; lie = λ b h. absurd (all-at (λ (q : Seen). ⊥) [] tt h) }
   ran (q ∷ l) m n (call _ _ _ now _ R r) o h = go (ran l now n r (o .1) (stays q m now R (o .0) h)) (seesIt (q .block)) refl
     where
@@ -64,7 +64,7 @@ module _ (D : Frame) (plane stride : ℕ) (G : Grid) (A : Area) (sx sy : ℕ) (s
             lie = t .lie;
           }
 
-  pub in-tile : (l : List Call) (m n : Lent) (start : ℕ) → Calls stride l m n → All Ok l → Laid A sx sy l → Long m → ((k : ℕ) → classOf plane k ≤ start)
+  pub in-tile : (l : List Call) (m n : Lent) (start : ℕ) → Calls level-stride l m n → All Ok l → Laid A sx sy l → Long m → ((k : ℕ) → classOf plane k ≤ start)
       → ((d : Pass) → Begins start (tileIn A sx sy d) (contextIn d (stateOf m)))
       → Drawn D plane G A sx sy (stateOf m) (stateOf n) start
   in-tile l m n start c o L h most begins = record { blocks = t .blocks; in-tile = inside; lies = found }

@@ -11,12 +11,12 @@ use Rattle.blocks.proofs.Planes.{luma-draws, luma-same, luma-stays, lum
 pub promises : Promises
 promises =
     record {
-      luma = λ D stride A l m n start T.
-          in-tile D 0 stride (lumaGrid (A .w4) (A .h4)) A 0 0 lumaState lumaSeen seesLuma (LumaLegal D A) (LumaLong A) (luma-draws D stride A T) (luma-same D stride A T)
-          (luma-stays D stride A T) (luma-sees D stride A T) (λ q k o. luma-part D stride A T q o k) (λ q k x R o. luma-lies D stride A T q o k x R) l m n start;
-      chroma = λ D plane stride A sx sy l m n start T.
-          in-tile D plane stride (chromaGrid sx sy (A .w4) (A .h4)) A sx sy chromaState chromaSeen seesChroma (ChromaLegal D plane A sx sy) (ChromaLong A sx sy)
-          (chroma-draws D plane stride A sx sy T) (chroma-same D plane stride A sx sy T) (chroma-stays D plane stride A sx sy T) (chroma-sees D plane stride A sx sy T)
-          (λ q k o. chroma-part D plane stride A sx sy T q o k) (λ q k x R o. chroma-lies D plane stride A sx sy T q o k) l m n start;
+      luma = λ D level-stride A l m n start T.
+          in-tile D 0 level-stride (lumaGrid (A .w4) (A .h4)) A 0 0 lumaState lumaSeen seesLuma (LumaLegal D A) (LumaLong A) (luma-draws D level-stride A T) (luma-same D level-stride A T)
+          (luma-stays D level-stride A T) (luma-sees D level-stride A T) (λ q k o. luma-part D level-stride A T q o k) (λ q k x R o. luma-lies D level-stride A T q o k x R) l m n start;
+      chroma = λ D plane level-stride A sx sy l m n start T.
+          in-tile D plane level-stride (chromaGrid sx sy (A .w4) (A .h4)) A sx sy chromaState chromaSeen seesChroma (ChromaLegal D plane A sx sy) (ChromaLong A sx sy)
+          (chroma-draws D plane level-stride A sx sy T) (chroma-same D plane level-stride A sx sy T) (chroma-stays D plane level-stride A sx sy T) (chroma-sees D plane level-stride A sx sy T)
+          (λ q k o. chroma-part D plane level-stride A sx sy T q o k) (λ q k x R o. chroma-lies D plane level-stride A sx sy T q o k) l m n start;
       whole = whole-tile;
     }

@@ -1,5 +1,5 @@
 -- The blocks of a tile, recorded by a list of calls.
---   Calls stride l m n       the calls l answer 0, one after another, and lead from the memory m to n
+--   Calls level-stride l m n       the calls l answer 0, one after another, and lead from the memory m to n
 --   Area                     a tile of a frame, in luma units: the frame's w4 and h4, MiCols and MiRows, and the tile from x0 to x1 and from y0 to y1
 --   axisOf A sx sy d         the direction across the pass d, in a plane of subsampling sx and sy
 --   tileIn A sx sy d         the visible tile in the plane, as the pass sees it
@@ -16,11 +16,11 @@ use mathlib.Core.Path.{_≡_}
 use Prim.Native.Nat.{ℕ, _≤_, _<_}
 use lib.ListN.{length}
 use Rattle.standard.specs.Edge.{Frame}
-use Rattle.plane.specs.Line.{Pass, columns, rows}
+use Rattle.plane.specs.Line.{Pass, columns, rows, other}
 use Rattle.units.specs.Units.{chromaUnits}
-use Rattle.edges.specs.Edges.{Grid, other}
+use Rattle.edges.specs.Edges.{Grid}
 use Rattle.block.specs.declared.Block.{Block}
-use Rattle.block.specs.Block.{w4, h4, wide, high, ssx, ssy, seesLuma, seesChroma, Lent}
+use Rattle.block.specs.Block.{w4, h4, blockWidth, blockHeight, ss-hor, ss-ver, seesLuma, seesChroma, Lent}
 use Rattle.agree.specs.Legal.{Legal, Shows}
 use Rattle.covering.specs.Front.{Part, Tile}
 use Rattle.covering.specs.Cover.{Axis, Sound, owns, Covering, tileOf}
@@ -28,9 +28,9 @@ use Rattle.covering.specs.Standard.{Lies}
 use Rattle.drawn.specs.Run.{State, Seen, InTile}
 use Rattle.drawn.specs.Calls.{Call, Records, coded, lumaSeen, chromaSeen}
 
-pub data Calls (stride : ℕ) : List Call → Lent → Lent → Type 0 where
-  done : (m : Lent) → Calls stride [] m m
-  call : (q : Call) (l : List Call) (m n o : Lent) → Records stride q m n → Calls stride l n o → Calls stride (q ∷ l) m o
+pub data Calls (level-stride : ℕ) : List Call → Lent → Lent → Type 0 where
+  done : (m : Lent) → Calls level-stride [] m m
+  call : (q : Call) (l : List Call) (m n o : Lent) → Records level-stride q m n → Calls level-stride l n o → Calls level-stride (q ∷ l) m o
 
 pub record Area : Type 0 where
   pub w4 : ℕ
@@ -56,8 +56,8 @@ pub record Whole (A : Area) : Type 0 where
   pub bottom : A .y1 ≡ A .MiRows
 
 abbrev pub blockIn : Pass → Block → Part
-blockIn columns b = record { at = b .x .0; across = wide b; from = b .y .0; along = high b }
-blockIn rows b = record { at = b .y .0; across = high b; from = b .x .0; along = wide b }
+blockIn columns b = record { at = b .x .0; across = blockWidth b; from = b .y .0; along = blockHeight b }
+blockIn rows b = record { at = b .y .0; across = blockHeight b; from = b .x .0; along = blockWidth b }
 
 abbrev pub blocksIn : Pass → List Call → List Part
 blocksIn d [] = []
@@ -76,9 +76,9 @@ pub record LumaLegal (D : Frame) (A : Area) (q : Call) : Type 0 where
 pub record ChromaLegal (D : Frame) (plane : ℕ) (A : Area) (sx sy : ℕ) (q : Call) : Type 0 where
   pub w4-is : w4 (q .block) ≡ A .w4
   pub h4-is : h4 (q .block) ≡ A .h4
-  pub sx-is : ssx (q .block) ≡ sx
-  pub sy-is : ssy (q .block) ≡ sy
-  pub has : q .block .chroma ≡ (owns (axisOf A sx sy columns) (q .block .x .0) (wide (q .block)) && owns (axisOf A sx sy rows) (q .block .y .0) (high (q .block)))
+  pub sx-is : ss-hor (q .block) ≡ sx
+  pub sy-is : ss-ver (q .block) ≡ sy
+  pub has : q .block .chroma ≡ (owns (axisOf A sx sy columns) (q .block .x .0) (blockWidth (q .block)) && owns (axisOf A sx sy rows) (q .block .y .0) (blockHeight (q .block)))
   pub legal : seesChroma (q .block) ≡ true → Legal D plane (coded (q .block))
   pub shows : seesChroma (q .block) ≡ true → (m : Lent) → Shows D plane (coded (q .block)) (chromaSeen q m .B)
 

@@ -85,5 +85,6 @@ pub cases :
     ∷ (0 ∷ 2 ∷ [])
     ∷ (0 ∷ 0 ∷ [])
     ∷ [])
-unfolding Clip3 Round2 limit blimit thresh bounds hevMask filterMask flatMask flatMask2 filter4_clamp baseFilter filter12 moved narrowed narrow wideAt wide changed filtered hasBit isSet mark unmark anyBelow lumaBit edgeBit edge cleared corrected correctLine number
+unfolding Clip3 Round2 limit blimit thresh bounds hevMask filterMask flatMask flatMask2 filter4_clamp baseFilter filter12 moved narrowed narrow wideAt wide changed
+    filtered hasBit isSet mark unmark anyBelow lumaBit edgeBit edge cleared corrected correctLine number
 cases = refl

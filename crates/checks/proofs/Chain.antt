@@ -12,7 +12,7 @@ use Rattle.loops.proofs.Numbers.{passed}
 use Rattle.checks.specs.declared.Call.{Call}
 use Rattle.checks.specs.Call.{Lent, Shaped, Roomy}
 use Rattle.checks.specs.Tests.{levelBad, depthBad, shapeBad, lengthBad, levelsBad, planesBad, given, marked, number}
-use Rattle.checks.proofs.Passed.{depths, shaped, roomy}
+use Rattle.checks.proofs.TestsPassed.{depths, shaped, roomy}
 
 -- five tests, and x behind them
 abbrev five : Bool → Bool → Bool → Bool → Bool → ℕ → ℕ

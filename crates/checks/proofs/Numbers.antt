@@ -14,7 +14,7 @@ use Rattle.checks.specs.Call.{Lent, sb4}
 use Rattle.checks.specs.Tests.{shapeBad, number}
 use Rattle.checks.specs.Faults.{LevelFault, DepthFault, ShapeFault, superblock-other, LengthFault, LevelByteFault, PlaneFault, RowFault, GapFault, MaskFault}
 use Rattle.checks.specs.Promises.{Clear2, Clear3, Clear4, Clear7, Clear8, Clear9, Clear10, Clear11, Clear12, Numbers}
-use Rattle.checks.proofs.Faults.{reflects-level, reflects-depth, reflects-shape, reflects-lengths, reflects-bytes, reflects-planes-bad, reflects-row, reflects-gap, reflects-mask}
+use Rattle.checks.proofs.FaultTests.{reflects-level, reflects-depth, reflects-shape, reflects-lengths, reflects-bytes, reflects-planes-bad, reflects-row, reflects-gap, reflects-mask}
 
 -- ---- none of several faults, one by one
 

@@ -8,16 +8,16 @@ use lib.ListN.{length, getD}
 use Rattle.units.specs.Units.{chromaUnit, chromaUnits}
 use Rattle.units.specs.Frame.{stored}
 use Rattle.units.specs.Memory.{planeOk}
-use Rattle.plane.specs.Line.{columns, rows}
-use Rattle.edges.specs.Edges.{passNo, unitsOf}
+use Rattle.plane.specs.Line.{columns, rows, passNo}
+use Rattle.edges.specs.Edges.{unitsOf}
 use Rattle.scans.specs.Scan.{levelsHigh, lumaLevelsHigh, chromaLevelsHigh, samplesHigh}
-use Rattle.scans.proofs.Told.{promises}
+use Rattle.scans.proofs.NumbersMean.{promises}
 use Rattle.gap.specs.Numbers.{sbUnits, gap, outside, Found}
 use Rattle.gap.specs.declared.Both.{Both}
 use Rattle.checks.specs.declared.Call.{Call}
-use Rattle.checks.specs.Call.{Lent, samples, passOf, w4, h4, sb4, ssx, ssy, gridOf, strideOf, kindOf, chromaOn}
+use Rattle.checks.specs.Call.{Lent, samples, callPass, w4, h4, sb4, ss-hor, ss-ver, gridOf, strideOf, areaOf, chromaOn}
 use Rattle.checks.specs.Tests.{anyPlane, inside, levelsBad, planeBad, planesBad, gapBad, maskBad}
-use Rattle.checks.proofs.Passed.{unmet}
+use Rattle.checks.proofs.TestsPassed.{unmet}
 
 module _ (c : Call) where
   pub luma-only : (test : ℕ → Bool) {r : Bool} → chromaOn c ≡ false → r ≡ test 0 → r ≡ anyPlane c test
@@ -35,35 +35,35 @@ module _ (c : Call) where
   unit-0 n = omega arith
 
   module _ (ls : List ℕ) where
-    abbrev high : ℕ → Bool
-    high n = levelsHigh ls (c .pitch) (kindOf c n) (unitsOf (gridOf c n) columns) (unitsOf (gridOf c n) rows) (sbUnits (gridOf c n) (sb4 c)) (passNo (passOf c)) (c .row)
+    abbrev height : ℕ → Bool
+    height n = levelsHigh ls (c .«level_stride») (areaOf c n) (unitsOf (gridOf c n) columns) (unitsOf (gridOf c n) rows) (sbUnits (gridOf c n) (sb4 c)) (passNo (callPass c)) (c .row)
 
-    luma-high : lumaLevelsHigh ls (c .pitch) (w4 c) (h4 c) (sb4 c) (passNo (passOf c)) (c .row) ≡ high 0
-    luma-high i = levelsHigh ls (c .pitch) (kindOf c 0) (units-0 (w4 c) i) (units-0 (h4 c) i) (unit-0 (sb4 c) i) (passNo (passOf c)) (c .row)
+    luma-high : lumaLevelsHigh ls (c .«level_stride») (w4 c) (h4 c) (sb4 c) (passNo (callPass c)) (c .row) ≡ height 0
+    luma-high i = levelsHigh ls (c .«level_stride») (areaOf c 0) (units-0 (w4 c) i) (units-0 (h4 c) i) (unit-0 (sb4 c) i) (passNo (callPass c)) (c .row)
 
     pub levels-out : inside c ≡ false → false ≡ levelsBad c ls
     unfolding levelsBad
     levels-out e = rw e refl
 
     pub levels-luma : {r : Bool} → inside c ≡ true → chromaOn c ≡ false
-        → r ≡ lumaLevelsHigh ls (c .pitch) (w4 c) (h4 c) (sb4 c) (passNo (passOf c)) (c .row) → r ≡ levelsBad c ls
+        → r ≡ lumaLevelsHigh ls (c .«level_stride») (w4 c) (h4 c) (sb4 c) (passNo (callPass c)) (c .row) → r ≡ levelsBad c ls
     unfolding levelsBad
-    levels-luma e o h = rw e (luma-only high o (h ∙ luma-high))
+    levels-luma e o h = rw e (luma-only height o (h ∙ luma-high))
 
     pub levels-all : {r s : Bool} → inside c ≡ true → chromaOn c ≡ true
-        → r ≡ lumaLevelsHigh ls (c .pitch) (w4 c) (h4 c) (sb4 c) (passNo (passOf c)) (c .row)
-        → s ≡ chromaLevelsHigh ls (c .pitch) (w4 c) (h4 c) (ssx c 1) (ssy c 1) (sb4 c) (passNo (passOf c)) (c .row) → (r || s) ≡ levelsBad c ls
+        → r ≡ lumaLevelsHigh ls (c .«level_stride») (w4 c) (h4 c) (sb4 c) (passNo (callPass c)) (c .row)
+        → s ≡ chromaLevelsHigh ls (c .«level_stride») (w4 c) (h4 c) (ss-hor c 1) (ss-ver c 1) (sb4 c) (passNo (callPass c)) (c .row) → (r || s) ≡ levelsBad c ls
     unfolding levelsBad
-    levels-all e o h k = rw e (with-chroma high o (h ∙ luma-high) k)
+    levels-all e o h k = rw e (with-chroma height o (h ∙ luma-high) k)
 
   -- ---- number 9
 
   module _ (n : ℕ) (s : List ℕ) where
     abbrev short : Bool
-    short = not (planeOk (length s) (strideOf c n) (stored (c .width .0) (ssx c n)) (stored (c .height .0) (ssy c n)))
+    short = not (planeOk (length s) (strideOf c n) (stored (c .width .0) (ss-hor c n)) (stored (c .height .0) (ss-ver c n)))
 
     abbrev samplesOver : Bool
-    samplesOver = samplesHigh s (strideOf c n) (2 ^ c .depth - 1) (stored (c .width .0) (ssx c n)) (chromaUnit (ssy c n) (sb4 c)) (8 * passNo (passOf c)) (c .row)
+    samplesOver = samplesHigh s (strideOf c n) (2 ^ c .depth - 1) (stored (c .width .0) (ss-hor c n)) (chromaUnit (ss-ver c n) (sb4 c)) (8 * passNo (callPass c)) (c .row)
 
     pub plane-short : short ≡ true → true ≡ planeBad c n s
     unfolding planeBad
@@ -98,17 +98,17 @@ module _ (c : Call) where
 
   -- ---- numbers 11 and 12
 
-  module _ (ms : List ℕ) (r : Both) (f : Found (gridOf c 0) ms (passOf c) (sb4 c) (c .row) r) where
+  module _ (ms : List ℕ) (r : Both) (f : Found (gridOf c 0) ms (callPass c) (sb4 c) (c .row) r) where
     pub found-luma : chromaOn c ≡ false → (r .gap ≡ gapBad c ms) × (r .out ≡ maskBad c ms)
     found-luma o = (
-      luma-only (λ n. gap (gridOf c n) ms (passOf c) (sb4 c) (c .row)) o (f .eleven),
-      luma-only (λ n. outside (gridOf c n) ms (passOf c) (sb4 c) (c .row)) o (f .twelve),
+      luma-only (λ n. gap (gridOf c n) ms (callPass c) (sb4 c) (c .row)) o (f .eleven),
+      luma-only (λ n. outside (gridOf c n) ms (callPass c) (sb4 c) (c .row)) o (f .twelve),
     )
 
     -- U and V share their masks
-    pub found-all : (s : Both) → Found (gridOf c 1) ms (passOf c) (sb4 c) (c .row) s → chromaOn c ≡ true
+    pub found-all : (s : Both) → Found (gridOf c 1) ms (callPass c) (sb4 c) (c .row) s → chromaOn c ≡ true
         → ((r .gap || s .gap) ≡ gapBad c ms) × ((r .out || s .out) ≡ maskBad c ms)
     found-all s g o = (
-      with-chroma (λ n. gap (gridOf c n) ms (passOf c) (sb4 c) (c .row)) o (f .eleven) (g .eleven ∙ sym (or-self _)),
-      with-chroma (λ n. outside (gridOf c n) ms (passOf c) (sb4 c) (c .row)) o (f .twelve) (g .twelve ∙ sym (or-self _)),
+      with-chroma (λ n. gap (gridOf c n) ms (callPass c) (sb4 c) (c .row)) o (f .eleven) (g .eleven ∙ sym (or-self _)),
+      with-chroma (λ n. outside (gridOf c n) ms (callPass c) (sb4 c) (c .row)) o (f .twelve) (g .twelve ∙ sym (or-self _)),
     )

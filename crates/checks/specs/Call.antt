@@ -2,12 +2,12 @@
 --   Lent                        the lent memory
 --   lent                        of these
 --   samples m n                 the samples of plane n
---   passOf c                    columns or rows
+--   callPass c                    columns or rows
 --   w4, h4, sb4                 the frame and its superblocks, in luma units
---   ssx c n, ssy c n            the subsampling of plane n
+--   ss-hor c n, ss-ver c n            the subsampling of plane n
 --   gridOf c n                  its units
 --   strideOf c n                its stride
---   kindOf c n                  its level byte in this pass
+--   areaOf c n                  its level byte in this pass
 --   chromaOn c                  chroma is filtered: there is chroma, and not both of its base levels are 0
 --   Filtered c n                plane n is filtered
 --   Shaped c                    what number 4 leaves
@@ -18,11 +18,11 @@ use mathlib.Core.Logic.{_⊎_}
 use mathlib.Core.Path.{_≡_}
 use Prim.Native.Nat.{ℕ, zero, suc, _*_, _≤_}
 use lib.Dec.{eqb}
-use Rattle.plane.specs.Line.{Pass, columns, rows}
+use Rattle.plane.specs.Line.{Pass, columns, rows, passNo}
 use Rattle.units.specs.Units.{unitsOf}
 use Rattle.units.specs.Layout.{hasChroma, ssHor, ssVer}
 use Rattle.units.specs.Frame.{frameRecords, superblockUnits}
-use Rattle.edges.specs.Edges.{Grid, passNo, lumaGrid, chromaGrid}
+use Rattle.edges.specs.Edges.{Grid, lumaGrid, chromaGrid}
 use Rattle.checks.specs.declared.Call.{Call}
 
 pub record Lent : Type 0 where
@@ -40,8 +40,8 @@ samples m zero = m .luma
 samples m (suc zero) = m .u
 samples m (suc (suc n)) = m .v
 
-abbrev pub passOf : Call → Pass
-passOf c = cond (c .rowwise) rows columns
+abbrev pub callPass : Call → Pass
+callPass c = cond (c .rowwise) rows columns
 
 abbrev pub w4 : Call → ℕ
 w4 c = unitsOf (c .width .0)
@@ -52,41 +52,41 @@ h4 c = unitsOf (c .height .0)
 abbrev pub sb4 : Call → ℕ
 sb4 c = superblockUnits (c .superblock)
 
-abbrev pub ssx : Call → ℕ → ℕ
-ssx c zero = 0
-ssx c (suc n) = ssHor (c .layout)
+abbrev pub ss-hor : Call → ℕ → ℕ
+ss-hor c zero = 0
+ss-hor c (suc n) = ssHor (c .layout)
 
-abbrev pub ssy : Call → ℕ → ℕ
-ssy c zero = 0
-ssy c (suc n) = ssVer (c .layout)
+abbrev pub ss-ver : Call → ℕ → ℕ
+ss-ver c zero = 0
+ss-ver c (suc n) = ssVer (c .layout)
 
 abbrev pub gridOf : Call → ℕ → Grid
 gridOf c zero = lumaGrid (w4 c) (h4 c)
 gridOf c (suc n) = chromaGrid (ssHor (c .layout)) (ssVer (c .layout)) (w4 c) (h4 c)
 
 abbrev pub strideOf : Call → ℕ → ℕ
-strideOf c zero = c .stride
-strideOf c (suc n) = c .uvstride
+strideOf c zero = c .«luma_stride»
+strideOf c (suc n) = c .«chroma_stride»
 
-abbrev pub kindOf : Call → ℕ → ℕ
-kindOf c zero = passNo (passOf c)
-kindOf c (suc n) = suc (suc n)
+abbrev pub areaOf : Call → ℕ → ℕ
+areaOf c zero = passNo (callPass c)
+areaOf c (suc n) = suc (suc n)
 
 abbrev pub chromaOn : Call → Bool
-chromaOn c = hasChroma (c .layout) && not (eqb (c .levelu) 0 && eqb (c .levelv) 0)
+chromaOn c = hasChroma (c .layout) && not (eqb (c .«level_u») 0 && eqb (c .«level_v») 0)
 
 -- in 01's words
 pub data Filtered (c : Call) : ℕ → Type 0 where
   luma : Filtered c 0
-  chroma-u : ¬ (c .layout ≡ 400) → ¬ ((c .levelu ≡ 0) × (c .levelv ≡ 0)) → Filtered c 1
-  chroma-v : ¬ (c .layout ≡ 400) → ¬ ((c .levelu ≡ 0) × (c .levelv ≡ 0)) → Filtered c 2
+  chroma-u : ¬ (c .layout ≡ 400) → ¬ ((c .«level_u» ≡ 0) × (c .«level_v» ≡ 0)) → Filtered c 1
+  chroma-v : ¬ (c .layout ≡ 400) → ¬ ((c .«level_u» ≡ 0) × (c .«level_v» ≡ 0)) → Filtered c 2
 
 pub record Shaped (c : Call) : Type 0 where
-  pub wide : (1 ≤ c .width .0) × (c .width .0 ≤ 16384)
-  pub high : (1 ≤ c .height .0) × (c .height .0 ≤ 16384)
+  pub width : (1 ≤ c .width .0) × (c .width .0 ≤ 16384)
+  pub height : (1 ≤ c .height .0) × (c .height .0 ≤ 16384)
   pub size : (c .superblock ≡ 64) ⊎ (c .superblock ≡ 128)
 
 pub record Roomy (c : Call) (levels masks : ℕ) : Type 0 where
-  pub wide : w4 c ≤ c .pitch
-  pub levels-long : 4 * c .pitch * h4 c ≤ levels
+  pub width : w4 c ≤ c .«level_stride»
+  pub levels-long : 4 * c .«level_stride» * h4 c ≤ levels
   pub masks-long : 640 * frameRecords (w4 c) (h4 c) ≤ masks

@@ -17,19 +17,19 @@ use lib.ListN.{length}
 use Rattle.units.specs.Units.{chromaUnit}
 use Rattle.units.specs.Layout.{Layout}
 use Rattle.units.specs.Frame.{frameRecords, stored}
-use Rattle.plane.specs.Line.{columns, rows}
-use Rattle.edges.specs.Edges.{passNo, unitsOf}
+use Rattle.plane.specs.Line.{columns, rows, passNo}
+use Rattle.edges.specs.Edges.{unitsOf}
 use Rattle.scans.specs.Promises.{LevelHigh, SampleHigh}
 use Rattle.gap.specs.Numbers.{sbUnits}
 use Rattle.gap.specs.Promises.{Gap, Outside}
 use Rattle.checks.specs.declared.Call.{Call}
-use Rattle.checks.specs.Call.{Lent, samples, passOf, w4, h4, sb4, ssx, ssy, gridOf, strideOf, kindOf, Filtered}
+use Rattle.checks.specs.Call.{Lent, samples, callPass, w4, h4, sb4, ss-hor, ss-ver, gridOf, strideOf, areaOf, Filtered}
 
 pub data LevelFault (c : Call) : Type 0 where
-  u-above : 63 < c .levelu → LevelFault c
-  v-above : 63 < c .levelv → LevelFault c
-  u-at-400 : c .layout ≡ 400 → ¬ (c .levelu ≡ 0) → LevelFault c
-  v-at-400 : c .layout ≡ 400 → ¬ (c .levelv ≡ 0) → LevelFault c
+  u-above : 63 < c .«level_u» → LevelFault c
+  v-above : 63 < c .«level_v» → LevelFault c
+  u-at-400 : c .layout ≡ 400 → ¬ (c .«level_u» ≡ 0) → LevelFault c
+  v-at-400 : c .layout ≡ 400 → ¬ (c .«level_v» ≡ 0) → LevelFault c
 
 abbrev pub DepthFault : Call → Type 0
 DepthFault c = ¬ (((c .depth ≡ 8) ⊎ (c .depth ≡ 10)) ⊎ (c .depth ≡ 12))
@@ -40,8 +40,8 @@ pub data ShapeFault (c : Call) : Type 0 where
   superblock-other : ¬ ((c .superblock ≡ 64) ⊎ (c .superblock ≡ 128)) → ShapeFault c
 
 pub data LengthFault (c : Call) (m : Lent) : Type 0 where
-  stride-below : c .pitch < w4 c → LengthFault c m
-  levels-short : length (m .levels) < 4 * c .pitch * h4 c → LengthFault c m
+  stride-below : c .«level_stride» < w4 c → LengthFault c m
+  levels-short : length (m .levels) < 4 * c .«level_stride» * h4 c → LengthFault c m
   masks-short : length (m .masks) < 640 * frameRecords (w4 c) (h4 c) → LengthFault c m
 
 abbrev pub InFrame : Call → Type 0
@@ -51,14 +51,14 @@ pub record LevelByteFault (c : Call) (m : Lent) : Type 0 where
   pub inside : InFrame c
   pub plane : ℕ
   pub filtered : Filtered c plane
-  pub high : LevelHigh (m .levels) (c .pitch) (kindOf c plane) (unitsOf (gridOf c plane) columns) (unitsOf (gridOf c plane) rows)
-      (sbUnits (gridOf c plane) (sb4 c)) (passNo (passOf c)) (c .row)
+  pub height : LevelHigh (m .levels) (c .«level_stride») (areaOf c plane) (unitsOf (gridOf c plane) columns) (unitsOf (gridOf c plane) rows)
+      (sbUnits (gridOf c plane) (sb4 c)) (passNo (callPass c)) (c .row)
 
 pub data SampleFault (c : Call) (n : ℕ) (s : List ℕ) : Type 0 where
-  stride-short : strideOf c n < stored (c .width .0) (ssx c n) → SampleFault c n s
-  too-short : length s < strideOf c n * stored (c .height .0) (ssy c n) → SampleFault c n s
+  stride-short : strideOf c n < stored (c .width .0) (ss-hor c n) → SampleFault c n s
+  too-short : length s < strideOf c n * stored (c .height .0) (ss-ver c n) → SampleFault c n s
   too-high : InFrame c
-      → SampleHigh s (strideOf c n) (2 ^ c .depth - 1) (stored (c .width .0) (ssx c n)) (chromaUnit (ssy c n) (sb4 c)) (8 * passNo (passOf c)) (c .row)
+      → SampleHigh s (strideOf c n) (2 ^ c .depth - 1) (stored (c .width .0) (ss-hor c n)) (chromaUnit (ss-ver c n) (sb4 c)) (8 * passNo (callPass c)) (c .row)
       → SampleFault c n s
 
 pub record PlaneFault (c : Call) (m : Lent) : Type 0 where
@@ -72,9 +72,9 @@ RowFault c = h4 c ≤ c .row * sb4 c
 pub record GapFault (c : Call) (m : Lent) : Type 0 where
   pub plane : ℕ
   pub filtered : Filtered c plane
-  pub broken : Gap (gridOf c plane) (m .masks) (passOf c) (sb4 c) (c .row)
+  pub broken : Gap (gridOf c plane) (m .masks) (callPass c) (sb4 c) (c .row)
 
 pub record MaskFault (c : Call) (m : Lent) : Type 0 where
   pub plane : ℕ
   pub filtered : Filtered c plane
-  pub bit : Outside (gridOf c plane) (m .masks) (passOf c) (sb4 c) (c .row)
+  pub bit : Outside (gridOf c plane) (m .masks) (callPass c) (sb4 c) (c .row)

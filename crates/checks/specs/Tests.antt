@@ -20,20 +20,20 @@ use Rattle.units.specs.Units.{chromaUnit}
 use Rattle.units.specs.Layout.{layoutOk, hasChroma}
 use Rattle.units.specs.Frame.{frameOk, superblockOk, superblocks, stored}
 use Rattle.units.specs.Memory.{levelsOk, planeOk, masksOk}
-use Rattle.edges.specs.Edges.{passNo, unitsOf}
-use Rattle.plane.specs.Line.{columns, rows}
+use Rattle.edges.specs.Edges.{unitsOf}
+use Rattle.plane.specs.Line.{columns, rows, passNo}
 use Rattle.scans.specs.Scan.{levelsHigh, samplesHigh}
 use Rattle.gap.specs.Numbers.{sbUnits, gap, outside}
 use Rattle.checks.specs.declared.Call.{Call}
-use Rattle.checks.specs.Call.{Lent, samples, passOf, w4, h4, sb4, ssx, ssy, gridOf, strideOf, kindOf, chromaOn}
+use Rattle.checks.specs.Call.{Lent, samples, callPass, w4, h4, sb4, ss-hor, ss-ver, gridOf, strideOf, areaOf, chromaOn}
 
 abbrev pub anyPlane : Call → (ℕ → Bool) → Bool
 anyPlane c test = test 0 || (chromaOn c && (test 1 || test 2))
 
 abbrev pub levelBad : Call → Bool
 levelBad c =
-    (ltb 63 (c .levelu) || ltb 63 (c .levelv))
-    || (not (hasChroma (c .layout)) && (not (eqb (c .levelu) 0) || not (eqb (c .levelv) 0)))
+    (ltb 63 (c .«level_u») || ltb 63 (c .«level_v»))
+    || (not (hasChroma (c .layout)) && (not (eqb (c .«level_u») 0) || not (eqb (c .«level_v») 0)))
 
 abbrev pub depthBad : Call → Bool
 depthBad c = not ((eqb (c .depth) 8 || eqb (c .depth) 10) || eqb (c .depth) 12)
@@ -42,7 +42,7 @@ abbrev pub shapeBad : Call → Bool
 shapeBad c = (not (layoutOk (c .layout)) || not (frameOk (c .width .0) (c .height .0))) || not (superblockOk (c .superblock))
 
 abbrev pub lengthBad : Call → ℕ → ℕ → Bool
-lengthBad c levels masks = not (levelsOk levels (c .pitch) (w4 c) (h4 c)) || not (masksOk masks (w4 c) (h4 c))
+lengthBad c levels masks = not (levelsOk levels (c .«level_stride») (w4 c) (h4 c)) || not (masksOk masks (w4 c) (h4 c))
 
 abbrev pub inside : Call → Bool
 inside c = ltb (c .row) (superblocks (h4 c) (sb4 c))
@@ -51,22 +51,22 @@ unfoldable pub levelsBad : Call → List ℕ → Bool
 levelsBad c ls =
     inside c
     && anyPlane c
-    (λ n. levelsHigh ls (c .pitch) (kindOf c n) (unitsOf (gridOf c n) columns) (unitsOf (gridOf c n) rows) (sbUnits (gridOf c n) (sb4 c)) (passNo (passOf c)) (c .row))
+    (λ n. levelsHigh ls (c .«level_stride») (areaOf c n) (unitsOf (gridOf c n) columns) (unitsOf (gridOf c n) rows) (sbUnits (gridOf c n) (sb4 c)) (passNo (callPass c)) (c .row))
 
 unfoldable pub planeBad : Call → ℕ → List ℕ → Bool
 planeBad c n s =
-    not (planeOk (length s) (strideOf c n) (stored (c .width .0) (ssx c n)) (stored (c .height .0) (ssy c n)))
+    not (planeOk (length s) (strideOf c n) (stored (c .width .0) (ss-hor c n)) (stored (c .height .0) (ss-ver c n)))
     || (inside c
-    && samplesHigh s (strideOf c n) (2 ^ c .depth - 1) (stored (c .width .0) (ssx c n)) (chromaUnit (ssy c n) (sb4 c)) (8 * passNo (passOf c)) (c .row))
+    && samplesHigh s (strideOf c n) (2 ^ c .depth - 1) (stored (c .width .0) (ss-hor c n)) (chromaUnit (ss-ver c n) (sb4 c)) (8 * passNo (callPass c)) (c .row))
 
 abbrev pub planesBad : Call → Lent → Bool
 planesBad c m = anyPlane c (λ n. planeBad c n (samples m n))
 
 abbrev pub gapBad : Call → List ℕ → Bool
-gapBad c ms = anyPlane c (λ n. gap (gridOf c n) ms (passOf c) (sb4 c) (c .row))
+gapBad c ms = anyPlane c (λ n. gap (gridOf c n) ms (callPass c) (sb4 c) (c .row))
 
 abbrev pub maskBad : Call → List ℕ → Bool
-maskBad c ms = anyPlane c (λ n. outside (gridOf c n) ms (passOf c) (sb4 c) (c .row))
+maskBad c ms = anyPlane c (λ n. outside (gridOf c n) ms (callPass c) (sb4 c) (c .row))
 
 abbrev pub given : Call → List ℕ → ℕ → ℕ
 given c ls masks =

@@ -1,15 +1,15 @@
 // The numbers of the calls that filter.
-pub mod tests;
+pub mod faults;
 
-use tests::depth_bad;
-use tests::found;
-use tests::inside;
-use tests::length_bad;
-use tests::level_bad;
-use tests::levels_bad;
-use tests::planes_bad_8;
-use tests::planes_bad_16;
-use tests::shape_bad;
+use faults::depth_bad;
+use faults::found;
+use faults::inside;
+use faults::length_bad;
+use faults::level_bad;
+use faults::levels_bad;
+use faults::planes_bad_8;
+use faults::planes_bad_16;
+use faults::shape_bad;
 use units::Sample;
 use units::numbers::DEPTH;
 use units::numbers::DONE;
@@ -28,21 +28,21 @@ ghost use Rattle.checks.specs.Call.{lent, Shaped, Roomy};
 ghost use Rattle.checks.specs.Promises.{Numbers};
 ghost use Rattle.checks.specs.Tests.{given, marked, number};
 
-// One pass of superblock row `row`: by rows or by columns. levelu and levelv are chroma's base levels; stride and uvstride are in samples,
-// pitch is that of the level bytes, in units.
+// One pass of superblock row `row`: by rows or by columns. level_u and level_v are chroma's base levels; luma_stride and chroma_stride are in samples,
+// level_stride is that of the level bytes, in units.
 pub struct Call {
     pub width: Sample,
     pub height: Sample,
     pub layout: usize,
     pub superblock: usize,
     pub depth: u32,
-    pub levelu: usize,
-    pub levelv: usize,
+    pub level_u: usize,
+    pub level_v: usize,
     pub row: usize,
     pub rowwise: bool,
-    pub stride: usize,
-    pub uvstride: usize,
-    pub pitch: usize,
+    pub luma_stride: usize,
+    pub chroma_stride: usize,
+    pub level_stride: usize,
 }
 
 // Numbers 2 to 8.

@@ -27,7 +27,8 @@ module _ (t : Start) where
       (reflects-or (reflects-or (reflects-not (reflects-layout (t .layout))) (reflects-not (reflects-frame (t .width .0) (t .height .0))))
       (reflects-not (reflects-superblock (t .superblock))))
     where
-      plain : ShapeFault t → ((¬ Layout (t .layout)) ⊎ (¬ (((1 ≤ t .width .0) × (t .width .0 ≤ 16384)) × ((1 ≤ t .height .0) × (t .height .0 ≤ 16384))))) ⊎ (¬ ((t .superblock ≡ 64) ⊎ (t .superblock ≡ 128)))
+      plain : ShapeFault t → ((¬ Layout (t .layout)) ⊎ (¬ (((1 ≤ t .width .0) × (t .width .0 ≤ 16384)) × ((1 ≤ t .height .0) × (t .height .0 ≤ 16384)))))
+          ⊎ (¬ ((t .superblock ≡ 64) ⊎ (t .superblock ≡ 128)))
       plain (layout-other n) = inl (inl n)
       plain (size-outside n) = inl (inr n)
       plain (superblock-other n) = inr n

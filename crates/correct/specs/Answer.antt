@@ -21,7 +21,7 @@ columnOf width height layout superblock row start =
       height = record { 0 = height };
       layout = layout;
       superblock = superblock;
-      rows = false;
+      rowwise = false;
       row = row;
       start = start;
     }
@@ -33,7 +33,7 @@ rowOf width height layout superblock row =
       height = record { 0 = height };
       layout = layout;
       superblock = superblock;
-      rows = true;
+      rowwise = true;
       row = row;
       start = 0;
     }

@@ -3,7 +3,7 @@
 --   cleared           all bits of an edge cleared; its bit of class c is `bit c`
 --   corrected         and that of min (old, context) set
 --   correctLine       n units from `first` on, at `across`
---   gridIn, lineDone  the plane of a `Line`, and its units corrected
+--   gridIn, lineDone  the plane of a `TileEdge`, and its units corrected
 --   planeDone         of one plane at a tile's start
 --   done              of all planes
 -- and what the code asks
@@ -17,12 +17,11 @@ use lib.ListN.{getD}
 use mir.Val.{boolByte}
 use Rattle.loops.specs.Run.{upTo}
 use Rattle.bits.specs.Mark.{isSet, mark, unmark}
-use Rattle.plane.specs.Line.{Pass}
-use Rattle.edges.specs.Edges.{Grid, Proper, gridOf, other, unitsOf, edgeBit}
+use Rattle.plane.specs.Line.{Pass, other, passOf}
+use Rattle.edges.specs.Edges.{Grid, Proper, gridOf, unitsOf, edgeBit}
 use Rattle.units.specs.Frame.{frameRecords}
-use Rattle.edge_at.specs.Bit.{passOf}
 use Rattle.correct.specs.declared.Start.{Start}
-use Rattle.correct.specs.declared.Line.{Line}
+use Rattle.correct.specs.declared.TileEdge.{TileEdge}
 use Rattle.correct.specs.Start.{lineOf, corrects}
 
 abbrev pub oldClass : Bool → (ℕ → Bool) → ℕ
@@ -36,13 +35,13 @@ unfoldable pub corrected : Bool → (ℕ → ℕ) → ℕ → List ℕ → List 
 corrected luma bit context ms = mark (cleared luma bit ms) (bit (min (oldClass luma (λ c. isSet ms (bit c))) context))
 
 unfoldable pub correctLine : Grid → Pass → ℕ → ℕ → ℕ → List ℕ → List ℕ → List ℕ
-correctLine G d across first n context = upTo (λ i. corrected (G .isLuma) (edgeBit G d (across, first + i)) (getD context i 0)) n
+correctLine G d across first n context = upTo (λ i. corrected (G .luma) (edgeBit G d (across, first + i)) (getD context i 0)) n
 
-abbrev pub gridIn : Line → Grid
-gridIn l = gridOf (l .luma) (l .hor) (l .ver) (l .w4 .0) (l .h4 .0)
+abbrev pub gridIn : TileEdge → Grid
+gridIn l = gridOf (l .luma) (l .«ss_hor») (l .«ss_ver») (l .w4 .0) (l .h4 .0)
 
-abbrev pub lineDone : Line → List ℕ → List ℕ → List ℕ
-lineDone l = correctLine (gridIn l) (passOf (l .rows)) (l .across) (l .first) (l .n)
+abbrev pub lineDone : TileEdge → List ℕ → List ℕ → List ℕ
+lineDone l = correctLine (gridIn l) (passOf (l .rowwise)) (l .across) (l .first) (l .n)
 
 abbrev pub planeDone : Start → Bool → List ℕ → List ℕ → List ℕ
 planeDone t luma context ms = cond (corrects t luma) (lineDone (lineOf t luma) context ms) ms
@@ -55,11 +54,11 @@ pub record Room (luma : Bool) (e len : ℕ) : Type 0 where
   pub four : luma ≡ true → (e + 96) / 16 < len
   pub in-usize : e + 96 < 2 ^ 64
 
-pub record Fits (l : Line) (masks context : ℕ) : Type 0 where
+pub record Fits (l : TileEdge) (masks context : ℕ) : Type 0 where
   pub proper : Proper (gridIn l)
-  pub wide : l .w4 .0 ≤ 4096
-  pub high : l .h4 .0 ≤ 4096
-  pub across-in : l .across < unitsOf (gridIn l) (passOf (l .rows))
-  pub end-in : l .first + l .n ≤ unitsOf (gridIn l) (other (passOf (l .rows)))
+  pub width : l .w4 .0 ≤ 4096
+  pub height : l .h4 .0 ≤ 4096
+  pub across-in : l .across < unitsOf (gridIn l) (passOf (l .rowwise))
+  pub end-in : l .first + l .n ≤ unitsOf (gridIn l) (other (passOf (l .rowwise)))
   pub long : 640 * frameRecords (l .w4 .0) (l .h4 .0) ≤ masks
   pub context-long : l .n ≤ context

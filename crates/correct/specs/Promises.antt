@@ -15,10 +15,9 @@ use lib.Dec.{eqb}
 use lib.ListN.{length, getD}
 use Rattle.loops.specs.Exactly.{Exactly}
 use Rattle.bits.specs.Mark.{isSet}
-use Rattle.plane.specs.Line.{Piece}
+use Rattle.plane.specs.Line.{Piece, passOf}
 use Rattle.edges.specs.Edges.{classes, edgeBit, edge}
 use Rattle.correct.specs.declared.Start.{Start}
-use Rattle.edge_at.specs.Bit.{passOf}
 use Rattle.correct.specs.Start.{gridAt, begin, across, first, end}
 use Rattle.correct.specs.Correct.{oldClass}
 use Rattle.correct.specs.Faults.{ShapeFault, ContextsFault, LengthFault, OutsideFault}
@@ -34,7 +33,7 @@ pub record CorrectedUnit (t : Start) (luma : Bool) (p : Piece) : Type 0 where
   pub to : p .1 < end t luma
 
 abbrev pub bitAt : Start → Bool → Piece → ℕ → ℕ
-bitAt t luma p = edgeBit (gridAt t luma) (passOf (t .rows)) p
+bitAt t luma p = edgeBit (gridAt t luma) (passOf (t .rowwise)) p
 
 abbrev pub newClass : Start → Bool → List ℕ → List ℕ → List ℕ → Piece → ℕ
 newClass t luma context context-uv ms p =
@@ -57,7 +56,7 @@ pub record Promised (t : Start) (context context-uv : List ℕ) (r : ℕ) (befor
   pub bits : r ≡ 0 → 0 < begin t → (luma : Bool) (p : Piece) → CorrectedUnit t luma p → (c : ℕ) → c < classes (gridAt t luma)
       → isSet after (bitAt t luma p c) ≡ eqb c (newClass t luma context context-uv before p)
   pub edges : r ≡ 0 → 0 < begin t → (luma : Bool) (p : Piece) → CorrectedUnit t luma p
-      → edge (gridAt t luma) after (passOf (t .rows)) p ≡ some (newClass t luma context context-uv before p)
+      → edge (gridAt t luma) after (passOf (t .rowwise)) p ≡ some (newClass t luma context context-uv before p)
   -- every other bit stays
   pub others : (x : ℕ) → ((luma : Bool) (p : Piece) (c : ℕ) → CorrectedUnit t luma p → c < classes (gridAt t luma) → ¬ (bitAt t luma p c ≡ x))
       → isSet after x ≡ isSet before x

@@ -5,7 +5,7 @@
 --   begin                     the superblock whose first line of units across the pass is the tile's first
 --   across                    that line, in units of a plane
 --   first, end                along it the units from `first` on, below `end`: those of the superblock row, or in the row pass all of the frame
---   lineOf                    all of these as the code's `Line`
+--   lineOf                    all of these as the code's `TileEdge`
 --   inside                    superblock row and tile start lie in the frame
 --   corrects                  something is corrected in a plane: inside the frame, not at its unit 0, and no chroma at 4:0:0
 -- and what the code asks
@@ -20,9 +20,9 @@ use Rattle.units.specs.Units.{unitsOf, chromaUnit, chromaUnits}
 use Rattle.units.specs.Layout.{hasChroma, ssHor, ssVer}
 use Rattle.units.specs.Frame.{superblockUnits, superblocks}
 use Rattle.edges.specs.Edges.{Grid, gridOf, ssOf}
-use Rattle.edge_at.specs.Bit.{passOf}
+use Rattle.plane.specs.Line.{passOf}
 use Rattle.correct.specs.declared.Start.{Start}
-use Rattle.correct.specs.declared.Line.{Line}
+use Rattle.correct.specs.declared.TileEdge.{TileEdge}
 
 abbrev pub w4 : Start → ℕ
 w4 t = unitsOf (t .width .0)
@@ -37,25 +37,25 @@ abbrev pub gridAt : Start → Bool → Grid
 gridAt t luma = gridOf luma (cond luma 0 (ssHor (t .layout))) (cond luma 0 (ssVer (t .layout))) (w4 t) (h4 t)
 
 abbrev pub begin : Start → ℕ
-begin t = cond (t .rows) (t .row) (t .start)
+begin t = cond (t .rowwise) (t .row) (t .start)
 
 abbrev pub across : Start → Bool → ℕ
-across t luma = chromaUnit (ssOf (gridAt t luma) (passOf (t .rows))) (begin t * sb4 t)
+across t luma = chromaUnit (ssOf (gridAt t luma) (passOf (t .rowwise))) (begin t * sb4 t)
 
 abbrev pub first : Start → Bool → ℕ
-first t luma = cond (t .rows) 0 (chromaUnit (gridAt t luma .ssy) (t .row * sb4 t))
+first t luma = cond (t .rowwise) 0 (chromaUnit (gridAt t luma .ss-ver) (t .row * sb4 t))
 
 abbrev pub end : Start → Bool → ℕ
 end t luma =
-    cond (t .rows) (chromaUnits (gridAt t luma .ssx) (w4 t)) (chromaUnits (gridAt t luma .ssy) (min (h4 t) ((t .row + 1) * sb4 t)))
+    cond (t .rowwise) (chromaUnits (gridAt t luma .ss-hor) (w4 t)) (chromaUnits (gridAt t luma .ss-ver) (min (h4 t) ((t .row + 1) * sb4 t)))
 
-abbrev pub lineOf : Start → Bool → Line
+abbrev pub lineOf : Start → Bool → TileEdge
 lineOf t luma =
     record {
       luma = luma;
-      rows = t .rows;
-      hor = gridAt t luma .ssx;
-      ver = gridAt t luma .ssy;
+      rowwise = t .rowwise;
+      «ss_hor» = gridAt t luma .ss-hor;
+      «ss_ver» = gridAt t luma .ss-ver;
       w4 = record { 0 = w4 t };
       h4 = record { 0 = h4 t };
       across = across t luma;
@@ -70,13 +70,13 @@ abbrev pub corrects : Start → Bool → Bool
 corrects t luma = (luma || hasChroma (t .layout)) && (inside t && ltb 0 (begin t))
 
 pub record Shaped (t : Start) : Type 0 where
-  pub wide : (1 ≤ t .width .0) × (t .width .0 ≤ 16384)
-  pub high : (1 ≤ t .height .0) × (t .height .0 ≤ 16384)
+  pub width : (1 ≤ t .width .0) × (t .width .0 ≤ 16384)
+  pub height : (1 ≤ t .height .0) × (t .height .0 ≤ 16384)
   pub size : (t .superblock ≡ 64) ⊎ (t .superblock ≡ 128)
 
 pub record Inside (t : Start) : Type 0 where
-  pub wide : t .width .0 ≤ 16384
-  pub high : t .height .0 ≤ 16384
+  pub width : t .width .0 ≤ 16384
+  pub height : t .height .0 ≤ 16384
   pub size : (sb4 t ≡ 16) ⊎ (sb4 t ≡ 32)
   pub row-in : t .row * sb4 t < h4 t
   pub start-in : t .start * sb4 t < w4 t

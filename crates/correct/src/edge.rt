@@ -1,9 +1,9 @@
 // One edge, and a line of them.
-use crate::Line;
+use crate::TileEdge;
 use bits::clear_bit;
 use bits::set_bit;
 use bits::test_bit;
-use edge_at::bit::edge_bit;
+use edges::bit::edge_bit;
 use units::least;
 ghost use mathlib.Core.Path.{_≡_};
 ghost use Prim.Native.Nat.{_+_, _*_};
@@ -44,13 +44,21 @@ fn correct_edge(masks: &mut [u16], luma: bool, e: usize, context: u8)
     set_bit(masks, e + 32 * least(old, context as usize));
 }
 
-pub fn correct_line(masks: &mut [u16], l: Line, context: &[u8])
+pub fn correct_line(masks: &mut [u16], l: TileEdge, context: &[u8])
     requires { ⌜ Fits l (length (now masks)) (length (now context)) ⌝ }
     ensures { λ _. ⌜ now (masks .exit) ≡ lineDone l (now (context .entry)) (now (masks .entry)) ⌝ }
 {
     let n = l.n;
     for i in 0..n {
-        let e = edge_bit(l.luma, l.hor, l.ver, l.w4, l.rows, l.across, l.first + i);
+        let e = edge_bit(
+            l.luma,
+            l.ss_hor,
+            l.ss_ver,
+            l.w4,
+            l.rowwise,
+            l.across,
+            l.first + i,
+        );
         correct_edge(masks, l.luma, e, context[i]);
     }
 }

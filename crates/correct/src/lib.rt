@@ -21,17 +21,17 @@ pub struct Start {
     pub height: Sample,
     pub layout: usize,
     pub superblock: usize,
-    pub rows: bool,
+    pub rowwise: bool,
     pub row: usize,
     pub start: usize,
 }
 
 // n units along a pass, from `first` on, at `across`, in units of their own plane.
-pub struct Line {
+pub struct TileEdge {
     pub luma: bool,
-    pub rows: bool,
-    pub hor: usize,
-    pub ver: usize,
+    pub rowwise: bool,
+    pub ss_hor: usize,
+    pub ss_ver: usize,
     pub w4: LumaUnit,
     pub h4: LumaUnit,
     pub across: usize,
@@ -80,7 +80,7 @@ pub fn correct_column(
         height: Sample(height as usize),
         layout: layout as usize,
         superblock: superblock as usize,
-        rows: false,
+        rowwise: false,
         row: row as usize,
         start: start as usize,
     };
@@ -105,7 +105,7 @@ pub fn correct_row(
         height: Sample(height as usize),
         layout: layout as usize,
         superblock: superblock as usize,
-        rows: true,
+        rowwise: true,
         row: row as usize,
         start: 0,
     };

@@ -1,9 +1,9 @@
-// The number of a correction: of the tests, in their order, the first that fails.
+// The number of a correction: of the faults, in their order, the first that fails.
 use crate::Start;
 use crate::place::corrects;
 use crate::place::inside;
 use crate::place::line;
-use block::tests::context_bad;
+use block::faults::context_bad;
 use units::frame::frame_ok;
 use units::frame::superblock_ok;
 use units::layout::layout_ok;

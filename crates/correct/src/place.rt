@@ -1,6 +1,6 @@
 // The line of units that a tile's start corrects in a plane.
-use crate::Line;
 use crate::Start;
+use crate::TileEdge;
 use units::LumaUnit;
 use units::chroma_unit;
 use units::chroma_units;
@@ -15,13 +15,13 @@ ghost use mathlib.Core.Path.{_≡_};
 ghost use Rattle.correct.specs.Start.{gridAt, begin, across, first, end, lineOf, inside, corrects, Shaped, Inside};
 
 fn hor(t: Start, luma: bool) -> usize
-    ensures { λ r. ⌜ r ≡ gridAt t luma .ssx ⌝ }
+    ensures { λ r. ⌜ r ≡ gridAt t luma .ss-hor ⌝ }
 {
     if luma { 0 } else { ss_hor(t.layout) }
 }
 
 fn ver(t: Start, luma: bool) -> usize
-    ensures { λ r. ⌜ r ≡ gridAt t luma .ssy ⌝ }
+    ensures { λ r. ⌜ r ≡ gridAt t luma .ss-ver ⌝ }
 {
     if luma { 0 } else { ss_ver(t.layout) }
 }
@@ -29,7 +29,7 @@ fn ver(t: Start, luma: bool) -> usize
 fn begin(t: Start) -> usize
     ensures { λ r. ⌜ r ≡ begin t ⌝ }
 {
-    if t.rows { t.row } else { t.start }
+    if t.rowwise { t.row } else { t.start }
 }
 
 fn across(t: Start, luma: bool) -> usize
@@ -37,7 +37,7 @@ fn across(t: Start, luma: bool) -> usize
     ensures { λ r. ⌜ r ≡ across t luma ⌝ }
 {
     let u = LumaUnit(begin(t) * superblock_units(t.superblock).0);
-    if t.rows {
+    if t.rowwise {
         return chroma_unit(u, ver(t, luma)).0;
     }
     chroma_unit(u, hor(t, luma)).0
@@ -47,7 +47,7 @@ fn first(t: Start, luma: bool) -> usize
     requires { ⌜ Inside t ⌝ }
     ensures { λ r. ⌜ r ≡ first t luma ⌝ }
 {
-    if t.rows {
+    if t.rowwise {
         return 0;
     }
     let y = LumaUnit(t.row * superblock_units(t.superblock).0);
@@ -58,24 +58,24 @@ fn end(t: Start, luma: bool) -> usize
     requires { ⌜ Inside t ⌝ }
     ensures { λ r. ⌜ r ≡ end t luma ⌝ }
 {
-    if t.rows {
+    if t.rowwise {
         return chroma_units(luma_units(t.width), hor(t, luma)).0;
     }
     let y = (t.row + 1) * superblock_units(t.superblock).0;
     chroma_units(LumaUnit(least(luma_units(t.height).0, y)), ver(t, luma)).0
 }
 
-pub fn line(t: Start, luma: bool) -> Line
+pub fn line(t: Start, luma: bool) -> TileEdge
     requires { ⌜ Inside t ⌝ }
     ensures { λ r. ⌜ r ≡ lineOf t luma ⌝ }
 {
     let from = first(t, luma);
     let n = end(t, luma) - from;
-    Line {
+    TileEdge {
         luma,
-        rows: t.rows,
-        hor: hor(t, luma),
-        ver: ver(t, luma),
+        rowwise: t.rowwise,
+        ss_hor: hor(t, luma),
+        ss_ver: ver(t, luma),
         w4: luma_units(t.width),
         h4: luma_units(t.height),
         across: across(t, luma),

@@ -11,7 +11,7 @@ pub extern "C" fn deblock_columns_8(
     v: &mut [u8],
     chroma_stride: usize,
     levels: &[u8],
-    stride: usize,
+    level_stride: usize,
     masks: &[u16],
     e: &[u8; 64],
     i: &[u8; 64],
@@ -23,7 +23,7 @@ pub extern "C" fn deblock_columns_8(
     level_v: u32,
     row: u32,
 ) -> u32
-    ensures { λ r. ⌜ FilterAnswer (callOf false 8 «luma_stride» «chroma_stride» stride width height layout superblock «level_u» «level_v» row)
+    ensures { λ r. ⌜ FilterAnswer (callOf false 8 «luma_stride» «chroma_stride» «level_stride» width height layout superblock «level_u» «level_v» row)
         (limits (now (e .entry)) (now (i .entry)))
         (lent (now (luma .entry)) (now (u .entry)) (now (v .entry)) (now (levels .entry)) (now (masks .entry))) r
         (three (now (luma .exit)) (now (u .exit)) (now (v .exit))) ⌝ }
@@ -35,7 +35,7 @@ pub extern "C" fn deblock_columns_8(
         v,
         chroma_stride,
         levels,
-        stride,
+        level_stride,
         masks,
         e,
         i,
@@ -57,7 +57,7 @@ pub extern "C" fn deblock_rows_8(
     v: &mut [u8],
     chroma_stride: usize,
     levels: &[u8],
-    stride: usize,
+    level_stride: usize,
     masks: &[u16],
     e: &[u8; 64],
     i: &[u8; 64],
@@ -69,7 +69,7 @@ pub extern "C" fn deblock_rows_8(
     level_v: u32,
     row: u32,
 ) -> u32
-    ensures { λ r. ⌜ FilterAnswer (callOf true 8 «luma_stride» «chroma_stride» stride width height layout superblock «level_u» «level_v» row)
+    ensures { λ r. ⌜ FilterAnswer (callOf true 8 «luma_stride» «chroma_stride» «level_stride» width height layout superblock «level_u» «level_v» row)
         (limits (now (e .entry)) (now (i .entry)))
         (lent (now (luma .entry)) (now (u .entry)) (now (v .entry)) (now (levels .entry)) (now (masks .entry))) r
         (three (now (luma .exit)) (now (u .exit)) (now (v .exit))) ⌝ }
@@ -81,7 +81,7 @@ pub extern "C" fn deblock_rows_8(
         v,
         chroma_stride,
         levels,
-        stride,
+        level_stride,
         masks,
         e,
         i,
@@ -103,7 +103,7 @@ pub extern "C" fn deblock_columns_16(
     v: &mut [u16],
     chroma_stride: usize,
     levels: &[u8],
-    stride: usize,
+    level_stride: usize,
     masks: &[u16],
     e: &[u8; 64],
     i: &[u8; 64],
@@ -116,7 +116,7 @@ pub extern "C" fn deblock_columns_16(
     level_v: u32,
     row: u32,
 ) -> u32
-    ensures { λ r. ⌜ FilterAnswer (callOf false depth «luma_stride» «chroma_stride» stride width height layout superblock «level_u» «level_v» row)
+    ensures { λ r. ⌜ FilterAnswer (callOf false depth «luma_stride» «chroma_stride» «level_stride» width height layout superblock «level_u» «level_v» row)
         (limits (now (e .entry)) (now (i .entry)))
         (lent (now (luma .entry)) (now (u .entry)) (now (v .entry)) (now (levels .entry)) (now (masks .entry))) r
         (three (now (luma .exit)) (now (u .exit)) (now (v .exit))) ⌝ }
@@ -128,7 +128,7 @@ pub extern "C" fn deblock_columns_16(
         v,
         chroma_stride,
         levels,
-        stride,
+        level_stride,
         masks,
         e,
         i,
@@ -151,7 +151,7 @@ pub extern "C" fn deblock_rows_16(
     v: &mut [u16],
     chroma_stride: usize,
     levels: &[u8],
-    stride: usize,
+    level_stride: usize,
     masks: &[u16],
     e: &[u8; 64],
     i: &[u8; 64],
@@ -164,7 +164,7 @@ pub extern "C" fn deblock_rows_16(
     level_v: u32,
     row: u32,
 ) -> u32
-    ensures { λ r. ⌜ FilterAnswer (callOf true depth «luma_stride» «chroma_stride» stride width height layout superblock «level_u» «level_v» row)
+    ensures { λ r. ⌜ FilterAnswer (callOf true depth «luma_stride» «chroma_stride» «level_stride» width height layout superblock «level_u» «level_v» row)
         (limits (now (e .entry)) (now (i .entry)))
         (lent (now (luma .entry)) (now (u .entry)) (now (v .entry)) (now (levels .entry)) (now (masks .entry))) r
         (three (now (luma .exit)) (now (u .exit)) (now (v .exit))) ⌝ }
@@ -176,7 +176,7 @@ pub extern "C" fn deblock_rows_16(
         v,
         chroma_stride,
         levels,
-        stride,
+        level_stride,
         masks,
         e,
         i,

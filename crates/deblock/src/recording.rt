@@ -6,7 +6,7 @@ ghost use Rattle.record.specs.Record.{intraOf, interOf, RecordAnswer};
 #[no_mangle]
 pub extern "C" fn deblock_record_intra(
     levels: &mut [u8],
-    stride: usize,
+    level_stride: usize,
     masks: &mut [u16],
     values: &[u8; 64],
     width: u32,
@@ -23,13 +23,13 @@ pub extern "C" fn deblock_record_intra(
     above_uv: &mut [u8],
     left_uv: &mut [u8],
 ) -> u32
-    ensures { λ r. ⌜ RecordAnswer (intraOf width height layout x y size tx chroma uvtx) stride (now (values .entry)) [] r
+    ensures { λ r. ⌜ RecordAnswer (intraOf width height layout x y size tx chroma uvtx) «level_stride» (now (values .entry)) [] r
         (lent (now (levels .entry)) (now (masks .entry)) (now (above .entry)) (now (left .entry)) (now («above_uv» .entry)) (now («left_uv» .entry)))
         (lent (now (levels .exit)) (now (masks .exit)) (now (above .exit)) (now (left .exit)) (now («above_uv» .exit)) (now («left_uv» .exit))) ⌝ }
 {
     record::record_intra(
         levels,
-        stride,
+        level_stride,
         masks,
         values,
         width,
@@ -51,7 +51,7 @@ pub extern "C" fn deblock_record_intra(
 #[no_mangle]
 pub extern "C" fn deblock_record_inter(
     levels: &mut [u8],
-    stride: usize,
+    level_stride: usize,
     masks: &mut [u16],
     values: &[u8; 64],
     width: u32,
@@ -72,13 +72,13 @@ pub extern "C" fn deblock_record_inter(
     above_uv: &mut [u8],
     left_uv: &mut [u8],
 ) -> u32
-    ensures { λ r. ⌜ RecordAnswer (interOf width height layout x y size tx chroma uvtx skip reference mode) stride (now (values .entry)) (now («tx_masks» .entry)) r
+    ensures { λ r. ⌜ RecordAnswer (interOf width height layout x y size tx chroma uvtx skip reference mode) «level_stride» (now (values .entry)) (now («tx_masks» .entry)) r
         (lent (now (levels .entry)) (now (masks .entry)) (now (above .entry)) (now (left .entry)) (now («above_uv» .entry)) (now («left_uv» .entry)))
         (lent (now (levels .exit)) (now (masks .exit)) (now (above .exit)) (now (left .exit)) (now («above_uv» .exit)) (now («left_uv» .exit))) ⌝ }
 {
     record::record_inter(
         levels,
-        stride,
+        level_stride,
         masks,
         values,
         width,

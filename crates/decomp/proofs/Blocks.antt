@@ -42,15 +42,15 @@ least t e = rw e (refl, refl)
 pub place : (t w4 h4 : ℕ) → Covers t w4 h4 → (y x : ℕ) → y < counted h4 (Tx_High t) → x < counted w4 (Tx_Wide t) → Place t 0 y x
 place t w4 h4 c y x p q =
     let r = tx-rule t (c .code) in
-    let v = line h4 (Tx_High t) y (r .high .low) (c .high .0) p in
-    let u = line w4 (Tx_Wide t) x (r .wide .low) (c .wide .0) q in
+    let v = line h4 (Tx_High t) y (r .height .low) (c .height .0) p in
+    let u = line w4 (Tx_Wide t) x (r .width .low) (c .width .0) q in
     record {
       code = c .code;
       deep = omega arith;
-      row = omega (arith, c .high .1);
-      column = omega (arith, c .wide .1);
-      high = room t h4 (Tx_High t) y v (c .high .1) (r .high .high) (λ e. least t e .0) (λ n. c .two n .1);
-      wide = room t w4 (Tx_Wide t) x u (c .wide .1) (r .wide .high) (λ e. least t e .1) (λ n. c .two n .0);
+      row = omega (arith, c .height .1);
+      column = omega (arith, c .width .1);
+      height = room t h4 (Tx_High t) y v (c .height .1) (r .height .at-most) (λ e. least t e .0) (λ n. c .two n .1);
+      width = room t w4 (Tx_Wide t) x u (c .width .1) (r .width .at-most) (λ e. least t e .1) (λ n. c .two n .0);
       flat = λ l. omega (arith, v .within 1 (omega (arith, c .flat l, one-mul (Tx_High t))));
       tall = λ l. omega (arith, u .within 1 (omega (arith, c .tall l, one-mul (Tx_Wide t))));
       near = λ n _. let b = c .two n in (omega (arith, v .within 2 (b .1)), omega (arith, u .within 2 (b .0)));

@@ -106,7 +106,7 @@ pub record Inside (w h y x : ℕ) : Type 0 where
 pub inside : (t y x w h : ℕ) → t < 19 → y * Tx_High t + Tx_High t ≤ 32 → x * Tx_Wide t + Tx_Wide t ≤ 32 → w ≡ Tx_Wide t → h ≡ Tx_High t → Inside w h y x
 inside t y x w h b p q ew eh =
     let r = tx-rule t b in
-    rw (ew, eh) (record { low = (r .wide .low, r .high .low); top = (r .wide .high, r .high .high); rows = p; columns = q })
+    rw (ew, eh) (record { low = (r .width .low, r .height .low); top = (r .width .at-most, r .height .at-most); rows = p; columns = q })
 
 -- ---- the cells
 

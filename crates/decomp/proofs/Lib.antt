@@ -2,5 +2,5 @@ pub mod Fills
 pub mod Splits
 pub mod Blocks
 pub mod Paints
-pub mod Leaves
+pub mod UnitTransforms
 pub mod Tiles

@@ -164,8 +164,8 @@ pub paints-whole : (t y x : ℕ) → t < 19 → y * Tx_High t + Tx_High t ≤ 32
 unfolding put
 paints-whole t Y X c hy hx =
     let r = tx-rule t c in
-    let lw = r .wide .low in
-    let lh = r .high .low in
+    let lw = r .width .low in
+    let lh = r .height .low in
     record {
       long = λ a l. length-ones _ _ _ _ lw lh hx hy 4 a ∙ l;
       inside = λ a l p y x lp i.

@@ -90,12 +90,12 @@ module _ (t d y x : ℕ) (p : Place t d y x) (n : 0 < t) where
   pub rows : (i : ℕ) → i < 2 → (i ≡ 1 → Tx_Wide t ≤ Tx_High t) → Half (Tx_High t) (Tx_High (Split_Tx_Size t)) y i
   rows i =
       let r = tx-rule t (p .code) .split in
-      half (Tx_High t) (Tx_Wide t) (Tx_High (Split_Tx_Size t)) y i (λ q. r .high q n) (r .high-stays) (p .flat)
+      half (Tx_High t) (Tx_Wide t) (Tx_High (Split_Tx_Size t)) y i (λ q. r .height q n) (r .high-stays) (p .flat)
 
   pub columns : (j : ℕ) → j < 2 → (j ≡ 1 → Tx_High t ≤ Tx_Wide t) → Half (Tx_Wide t) (Tx_Wide (Split_Tx_Size t)) x j
   columns j =
       let r = tx-rule t (p .code) .split in
-      half (Tx_Wide t) (Tx_High t) (Tx_Wide (Split_Tx_Size t)) x j (λ q. r .wide q n) (r .wide-stays) (p .tall)
+      half (Tx_Wide t) (Tx_High t) (Tx_Wide (Split_Tx_Size t)) x j (λ q. r .width q n) (r .wide-stays) (p .tall)
 
   pub part : (i j : ℕ) → d < 2 → i < 2 → j < 2 → (i ≡ 1 → Tx_Wide t ≤ Tx_High t) → (j ≡ 1 → Tx_High t ≤ Tx_Wide t)
       → Place (Split_Tx_Size t) (d + 1) (y * 2 + i) (x * 2 + j)
@@ -107,10 +107,10 @@ module _ (t d y x : ℕ) (p : Place t d y x) (n : 0 < t) where
       record {
         code = r .code;
         deep = omega arith;
-        row = omega (arith, le-mul-of-pos-right (y * 2 + i) (u .high .low), p .high);
-        column = omega (arith, le-mul-of-pos-right (x * 2 + j) (u .wide .low), p .wide);
-        high = omega (arith, p .high);
-        wide = omega (arith, p .wide);
+        row = omega (arith, le-mul-of-pos-right (y * 2 + i) (u .height .low), p .height);
+        column = omega (arith, le-mul-of-pos-right (x * 2 + j) (u .width .low), p .width);
+        height = omega (arith, p .height);
+        width = omega (arith, p .width);
         flat = λ q. none y i (p .flat (r .flat q)) hi (λ e. omega (arith, f e, r .flat q));
         tall = λ q. none x j (p .tall (r .tall q)) hj (λ e. omega (arith, g e, r .tall q));
         near = λ q l. let k = p .near n b in omega arith;

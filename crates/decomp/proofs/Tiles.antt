@@ -42,8 +42,8 @@ module _ (x y x′ y′ : ℕ) where
   above m t h e g =
       let n = not-least m t e in
       let r = tx-rule t h .split in (
-        coarser (Tx_Wide t) (Tx_High t) (Tx_Wide (Split_Tx_Size t)) x x′ (λ q. r .wide q n) (r .wide-stays) (g .0),
-        coarser (Tx_High t) (Tx_Wide t) (Tx_High (Split_Tx_Size t)) y y′ (λ q. r .high q n) (r .high-stays) (g .1),
+        coarser (Tx_Wide t) (Tx_High t) (Tx_Wide (Split_Tx_Size t)) x x′ (λ q. r .width q n) (r .wide-stays) (g .0),
+        coarser (Tx_High t) (Tx_Wide t) (Tx_High (Split_Tx_Size t)) y y′ (λ q. r .height q n) (r .high-stays) (g .1),
       )
 
   together : (ms : List ℕ) (t : ℕ) → t < 19 → Together x y x′ y′ (leaf ms t x y) → Together x y x′ y′ t

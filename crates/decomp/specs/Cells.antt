@@ -15,8 +15,8 @@ cell p y x = (p * 32 + y) * 32 + x
 
 pub record Covers (t w4 h4 : ℕ) : Type 0 where
   pub code : t < 19
-  pub wide : (0 < w4) × (w4 ≤ 32)
-  pub high : (0 < h4) × (h4 ≤ 32)
+  pub width : (0 < w4) × (w4 ≤ 32)
+  pub height : (0 < h4) × (h4 ≤ 32)
   pub two : 0 < t → (w4 ≤ 2 * Tx_Wide t) × (h4 ≤ 2 * Tx_High t)
   pub flat : Tx_High t < Tx_Wide t → h4 ≤ Tx_High t
   pub tall : Tx_Wide t < Tx_High t → w4 ≤ Tx_Wide t

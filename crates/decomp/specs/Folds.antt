@@ -83,8 +83,8 @@ pub record Place (t d y x : ℕ) : Type 0 where
   pub deep : d ≤ 2
   pub row : y < 32
   pub column : x < 32
-  pub high : y * Tx_High t + Tx_High t ≤ 32
-  pub wide : x * Tx_Wide t + Tx_Wide t ≤ 32
+  pub height : y * Tx_High t + Tx_High t ≤ 32
+  pub width : x * Tx_Wide t + Tx_Wide t ≤ 32
   pub flat : Tx_High t < Tx_Wide t → y ≡ 0
   pub tall : Tx_Wide t < Tx_High t → x ≡ 0
   pub near : 0 < t → d < 2 → (y < 2 * (d + 1)) × (x < 2 * (d + 1))

@@ -10,10 +10,10 @@ use native.Mathlib.Omega.{arith}
 use lib.Dec.{eqb, ltb}
 use borrow.Author.Tests.{lt-ltb, le-ltb, eq-eqb, ne-eqb}
 use Rattle.bits.specs.Mark.{isSet}
-use Rattle.plane.specs.Line.{Pass, columns, rows, Piece}
+use Rattle.plane.specs.Line.{Pass, columns, rows, Piece, other}
 use Rattle.standard.specs.Edge.{Frame}
 use Rattle.units.specs.Units.{unitsOf, chromaUnits}
-use Rattle.edges.specs.Edges.{Grid, classes, other, inFrame, highest, edgeBit, edge}
+use Rattle.edges.specs.Edges.{Grid, classes, inFrame, highest, edgeBit, edge}
 use Rattle.edges.specs.Edges as edges
 use Rattle.edges.proofs.Bits.{highest-one}
 use Rattle.covering.specs.Standard.{sideAt, rowOf, colOf, appliesAt, edgeIn}
@@ -53,16 +53,16 @@ off-screen u W (suc (suc s)) h l = absurd (omega arith)
 module _ (D : Frame) (plane : ℕ) (G : Grid) (A : Tallies D plane G) where
   -- the units of the frame, either way
   units-x : chromaUnits (D .sx plane) (unitsOf (D .FrameWidth)) ≡ edges.unitsOf G columns
-  units-x = ap₂ chromaUnits (A .right-ss) (sym (A .wide))
+  units-x = ap₂ chromaUnits (A .right-ss) (sym (A .width))
 
   units-y : chromaUnits (D .sy plane) (unitsOf (D .FrameHeight)) ≡ edges.unitsOf G rows
-  units-y = ap₂ chromaUnits (A .down-ss) (sym (A .high))
+  units-y = ap₂ chromaUnits (A .down-ss) (sym (A .height))
 
   pub sx-le : D .sx plane ≤ 1
-  sx-le = omega (arith, A .right-ss, A .proper .ssx-le)
+  sx-le = omega (arith, A .right-ss, A .proper .ss-hor-le)
 
   pub sy-le : D .sy plane ≤ 1
-  sy-le = omega (arith, A .down-ss, A .proper .ssy-le)
+  sy-le = omega (arith, A .down-ss, A .proper .ss-ver-le)
 
   abbrev onScreen : Pass → Piece → Bool
   onScreen d p = ltb (4 * colOf D plane d (p .1) (p .0)) (D .FrameWidth) && ltb (4 * rowOf D plane d (p .1) (p .0)) (D .FrameHeight)

@@ -7,17 +7,17 @@ use native.Mathlib.Omega.{arith}
 use lib.ListN.{getD, take, take-append-drop}
 use borrow.Author.Tests.{lt-ltb}
 use Rattle.bits.specs.Mark.{isSet}
-use Rattle.plane.specs.Line.{Pass, columns, rows, Piece}
+use Rattle.plane.specs.Line.{Pass, columns, rows, Piece, other}
 use Rattle.units.specs.Units.{chromaUnit}
 use Rattle.units.specs.Memory.{lumaBit}
-use Rattle.edges.specs.Edges.{unitsOf, classes, other, edgeBit}
+use Rattle.edges.specs.Edges.{unitsOf, classes, edgeBit}
 use Rattle.mask_edges.specs.Recording.{chromaBits}
 use Rattle.mask_edges.specs.Recording as recording
 use Rattle.block.specs.declared.Block.{Block}
-use Rattle.block.specs.Block.{ssx, ssy, bw4, bh4, cbw4, cbh4, seesLuma, seesChroma, Lent}
+use Rattle.block.specs.Block.{ss-hor, ss-ver, bw4, bh4, cbw4, cbh4, seesLuma, seesChroma, Lent}
 use Rattle.record.specs.Recorded.{edgeOf, inFrame, lumaBlock, chromaBlock, chromaEdge, lumaEdge, Stored}
 use Rattle.record.proofs.Answers as record-calls
-use Rattle.record.proofs.Sounds.{fitting}
+use Rattle.record.proofs.SoundBlocks.{fitting}
 use Rattle.record.specs.Record.{Fitting}
 use Rattle.agree.proofs.Marked.{no-unit}
 use Rattle.drawn.specs.Run.{contextIn, Same}
@@ -25,15 +25,15 @@ use Rattle.drawn.specs.Calls.{atBlock, Call, Records, lumaState, chromaS
 use Rattle.drawn.proofs.Calls.{luma-shape, no-chroma}
 use Rattle.drawn.proofs.Chromas.{no-luma}
 
-module _ (q : Call) (stride : ℕ) (m n : Lent) (R : Records stride q m n) where
+module _ (q : Call) (level-stride : ℕ) (m n : Lent) (R : Records level-stride q m n) where
   abbrev K : Block
   K = q .block
 
-  kept : Stored K stride (q .values) (q .tx-masks) (atBlock K m) (R .left-behind)
-  kept = record-calls.promises .each K stride (q .values) (q .tx-masks) 0 (atBlock K m) (R .left-behind) (R .answer) .accepted refl
+  kept : Stored K level-stride (q .values) (q .tx-masks) (atBlock K m) (R .left-behind)
+  kept = record-calls.promises .each K level-stride (q .values) (q .tx-masks) 0 (atBlock K m) (R .left-behind) (R .answer) .accepted refl
 
   fit : Fitting K
-  fit = fitting K stride (atBlock K m) (sym (R .answer .code))
+  fit = fitting K level-stride (atBlock K m) (sym (R .answer .code))
 
   pub luma-same : seesLuma K ≡ false → Same (lumaUnits K) (lumaState m) (lumaState n)
   luma-same e = record { bits = bits; contexts = contexts }
@@ -79,11 +79,11 @@ module _ (q : Call) (stride : ℕ) (m n : Lent) (R : Records stride q m n) where
       none : (x : ℕ) → chromaEdge K (atBlock K m) x ≡ false
       none x = go (K .chroma) refl
         where
-          go : (k : Bool) → K .chroma ≡ k → (k && edgeOf B (inFrame K (chromaBits (ssx K) (ssy K))) x) ≡ false
+          go : (k : Bool) → K .chroma ≡ k → (k && edgeOf B (inFrame K (chromaBits (ss-hor K) (ss-ver K))) x) ≡ false
           go false g = refl
           go true g =
-              ap₂ _||_ (no-unit (recording.columns B) (inFrame K (chromaBits (ssx K) (ssy K)) 0) x (λ u v hu hv _. sees g u v hu hv))
-              (no-unit (recording.rows B) (inFrame K (chromaBits (ssx K) (ssy K)) 1) x (λ u v hu hv _. sees g v u hv hu))
+              ap₂ _||_ (no-unit (recording.columns B) (inFrame K (chromaBits (ss-hor K) (ss-ver K)) 0) x (λ u v hu hv _. sees g u v hu hv))
+              (no-unit (recording.rows B) (inFrame K (chromaBits (ss-hor K) (ss-ver K)) 1) x (λ u v hu hv _. sees g v u hv hu))
 
       bits : (d : Pass) (p : Piece) (c : ℕ) → p .0 < unitsOf (chromaUnitsOf K) d → p .1 < unitsOf (chromaUnitsOf K) (other d) → c < classes (chromaUnitsOf K)
           → isSet (n .masks) (edgeBit (chromaUnitsOf K) d p c) ≡ isSet (m .masks) (edgeBit (chromaUnitsOf K) d p c)
@@ -97,9 +97,9 @@ module _ (q : Call) (stride : ℕ) (m n : Lent) (R : Records stride q m n) where
       contexts : (d : Pass) (j : ℕ) → contextIn d (chromaState n) j ≡ contextIn d (chromaState m) j
       contexts columns j =
           ap (λ (x : Lent). getD (x .left-uv) j 0) (R .now-is)
-          ∙ ap (λ (x : List ℕ). getD (take (chromaUnit (ssy K) (K .y .0)) (m .left-uv) ++ x) j 0) (kept .chroma-stay e .1)
-          ∙ ap (λ (x : List ℕ). getD x j 0) (take-append-drop (chromaUnit (ssy K) (K .y .0)) (m .left-uv))
+          ∙ ap (λ (x : List ℕ). getD (take (chromaUnit (ss-ver K) (K .y .0)) (m .left-uv) ++ x) j 0) (kept .chroma-stay e .1)
+          ∙ ap (λ (x : List ℕ). getD x j 0) (take-append-drop (chromaUnit (ss-ver K) (K .y .0)) (m .left-uv))
       contexts rows j =
           ap (λ (x : Lent). getD (x .above-uv) j 0) (R .now-is)
-          ∙ ap (λ (x : List ℕ). getD (take (chromaUnit (ssx K) (K .x .0)) (m .above-uv) ++ x) j 0) (kept .chroma-stay e .0)
-          ∙ ap (λ (x : List ℕ). getD x j 0) (take-append-drop (chromaUnit (ssx K) (K .x .0)) (m .above-uv))
+          ∙ ap (λ (x : List ℕ). getD (take (chromaUnit (ss-hor K) (K .x .0)) (m .above-uv) ++ x) j 0) (kept .chroma-stay e .0)
+          ∙ ap (λ (x : List ℕ). getD x j 0) (take-append-drop (chromaUnit (ss-hor K) (K .x .0)) (m .above-uv))

@@ -12,13 +12,13 @@ use lib.Dec.{eqb}
 use borrow.Author.Tests.{eq-eqb, ne-eqb}
 use Rattle.loops.proofs.Lists.{row-in}
 use Rattle.loops.proofs.Tables.{each-at}
-use Rattle.plane.specs.Line.{Pass, columns, rows, Piece}
+use Rattle.plane.specs.Line.{Pass, columns, rows, Piece, other, passNo}
 use Rattle.plane.specs.Plane.{right, down}
 use Rattle.units.specs.Frame.{records, frameRecords}
 use Rattle.units.specs.Memory.{halfUnits, lumaBit, chromaBit}
 use Rattle.units.specs.Units.{chromaUnits}
 use Rattle.units.proofs.Places.{by-ss, side-le, luma-bit-inj, chroma-bit-inj, luma-bit-in, chroma-bit-in}
-use Rattle.edges.specs.Edges.{Grid, Proper, other, passNo, ssOf, unitsOf, side, recordAt, classes, bitIn, edgeBit, highest}
+use Rattle.edges.specs.Edges.{Grid, Proper, ssOf, unitsOf, side, recordAt, classes, bitIn, edgeBit, highest}
 
 -- ---- a bit in its record, b being the kind
 
@@ -32,7 +32,7 @@ class-in false ss pass u c q = omega arith
 pub class-apart : (G : Grid) (d : Pass) (p : Piece) (c : ℕ) → edgeBit G d p c ≡ edgeBit G d p 0 + 32 * c
 unfolding edgeBit
 class-apart G d p c =
-    omega (arith, class-in (G .isLuma) (ssOf G (other d)) (passNo d) (p .0 % side G d) c (p .1 % side G (other d)))
+    omega (arith, class-in (G .luma) (ssOf G (other d)) (passNo d) (p .0 % side G d) c (p .1 % side G (other d)))
 
 pass-lt : (d : Pass) → passNo d < 2
 pass-lt columns = omega arith
@@ -56,10 +56,10 @@ row-inj a b x y n hx hy e =
 
 module _ (G : Grid) (P : Proper G) where
   ss-le : (d : Pass) → ssOf G d ≤ 1
-  ss-le columns = P .ssx-le
-  ss-le rows = P .ssy-le
+  ss-le columns = P .ss-hor-le
+  ss-le rows = P .ss-ver-le
 
-  luma-ss : (d : Pass) → G .isLuma ≡ true → ssOf G d ≡ 0
+  luma-ss : (d : Pass) → G .luma ≡ true → ssOf G d ≡ 0
   luma-ss columns = P .luma-x
   luma-ss rows = P .luma-y
 
@@ -74,13 +74,13 @@ module _ (G : Grid) (P : Proper G) where
 
   record-right : (d : Pass) (p : Piece) → p .0 < unitsOf G d → p .1 < unitsOf G (other d)
       → right d (p .0 / side G d, p .1 / side G (other d)) < records (G .w4)
-  record-right columns p x y = records-in (G .ssx) (G .w4) (p .0) (P .ssx-le) x
-  record-right rows p x y = records-in (G .ssx) (G .w4) (p .1) (P .ssx-le) y
+  record-right columns p x y = records-in (G .ss-hor) (G .w4) (p .0) (P .ss-hor-le) x
+  record-right rows p x y = records-in (G .ss-hor) (G .w4) (p .1) (P .ss-hor-le) y
 
   record-down : (d : Pass) (p : Piece) → p .0 < unitsOf G d → p .1 < unitsOf G (other d)
       → down d (p .0 / side G d, p .1 / side G (other d)) < records (G .h4)
-  record-down columns p x y = records-in (G .ssy) (G .h4) (p .1) (P .ssy-le) y
-  record-down rows p x y = records-in (G .ssy) (G .h4) (p .0) (P .ssy-le) x
+  record-down columns p x y = records-in (G .ss-ver) (G .h4) (p .1) (P .ss-ver-le) y
+  record-down rows p x y = records-in (G .ss-ver) (G .h4) (p .0) (P .ss-ver-le) x
 
   record-in : (d : Pass) (p : Piece) → p .0 < unitsOf G d → p .1 < unitsOf G (other d)
       → recordAt G d (p .0 / side G d) (p .1 / side G (other d)) < frameRecords (G .w4) (G .h4)
@@ -93,24 +93,24 @@ module _ (G : Grid) (P : Proper G) where
       )
 
   -- one class more has room in a luma record
-  bits-in : (d : Pass) (u c q : ℕ) → u < 32 → c < cond (G .isLuma) 4 2 → q < 2 * halfUnits (ssOf G (other d)) → bitIn G d u c q < 10240
+  bits-in : (d : Pass) (u c q : ℕ) → u < 32 → c < cond (G .luma) 4 2 → q < 2 * halfUnits (ssOf G (other d)) → bitIn G d u c q < 10240
   unfolding lumaBit
-  bits-in d u c q hu hc hq = go (G .isLuma) refl hc
+  bits-in d u c q hu hc hq = go (G .luma) refl hc
     where
-      go : (b : Bool) → G .isLuma ≡ b → c < cond b 4 2
+      go : (b : Bool) → G .luma ≡ b → c < cond b 4 2
           → cond b (lumaBit (passNo d) u c q) (chromaBit (ssOf G (other d)) (passNo d) u c q) < 10240
       go true e h =
           let z : q < 32 = rw (luma-ss (other d) e) at hq in omega (arith, pass-lt d)
       go false e h = chroma-bit-in (ssOf G (other d)) (passNo d) u c q (ss-le (other d)) (pass-lt d) hu h hq .1
 
-  pub edge-bit-in : (d : Pass) (p : Piece) (c : ℕ) → p .0 < unitsOf G d → p .1 < unitsOf G (other d) → c < cond (G .isLuma) 4 2
+  pub edge-bit-in : (d : Pass) (p : Piece) (c : ℕ) → p .0 < unitsOf G d → p .1 < unitsOf G (other d) → c < cond (G .luma) 4 2
       → edgeBit G d p c < 10240 * frameRecords (G .w4) (G .h4)
   unfolding edgeBit
   edge-bit-in d p c x y h =
       omega (arith, record-in d p x y, bits-in d (p .0 % side G d) c (p .1 % side G (other d)) (unit-in d (p .0)) h (place-in d (p .1)))
 
-  classes-room : (c : ℕ) → c < classes G → c < cond (G .isLuma) 4 2
-  classes-room c h = go (G .isLuma) h
+  classes-room : (c : ℕ) → c < classes G → c < cond (G .luma) 4 2
+  classes-room c h = go (G .luma) h
     where
       go : (b : Bool) → c < cond b 3 2 → c < cond b 4 2
       go true l = omega arith
@@ -119,9 +119,9 @@ module _ (G : Grid) (P : Proper G) where
   bits-inj : (d : Pass) (u u′ c c′ q q′ : ℕ) → u < 32 → u′ < 32 → c < classes G → c′ < classes G
       → q < 2 * halfUnits (ssOf G (other d)) → q′ < 2 * halfUnits (ssOf G (other d)) → bitIn G d u c q ≡ bitIn G d u′ c′ q′
       → (u ≡ u′) × (c ≡ c′) × (q ≡ q′)
-  bits-inj d u u′ c c′ q q′ hu hu′ hc hc′ hq hq′ = go (G .isLuma) refl hc hc′
+  bits-inj d u u′ c c′ q q′ hu hu′ hc hc′ hq hq′ = go (G .luma) refl hc hc′
     where
-      go : (b : Bool) → G .isLuma ≡ b → c < cond b 3 2 → c′ < cond b 3 2
+      go : (b : Bool) → G .luma ≡ b → c < cond b 3 2 → c′ < cond b 3 2
           → cond b (lumaBit (passNo d) u c q) (chromaBit (ssOf G (other d)) (passNo d) u c q)
           ≡ cond b (lumaBit (passNo d) u′ c′ q′) (chromaBit (ssOf G (other d)) (passNo d) u′ c′ q′)
           → (u ≡ u′) × (c ≡ c′) × (q ≡ q′)
@@ -160,16 +160,16 @@ module _ (G : Grid) (P : Proper G) where
       (again d (p .0) (q .0) (i .0) (j .0), again (other d) (p .1) (q .1) (i .1) (j .2), j .1)
 
 -- luma edges and chroma edges share no bit
-module _ (G H : Grid) (P : Proper G) (Q : Proper H) (l : G .isLuma ≡ true) (m : H .isLuma ≡ false) where
+module _ (G H : Grid) (P : Proper G) (Q : Proper H) (l : G .luma ≡ true) (m : H .luma ≡ false) where
   low : (d : Pass) (u c q : ℕ) → u < 32 → c < classes G → q < 2 * halfUnits (ssOf G (other d)) → bitIn G d u c q < 6144
   low d u c q hu hc hq =
       let h : c < 3 = rw l at hc in
       let z : q < 32 = rw (luma-ss G P (other d) l) at hq in
       rw l (luma-bit-in (passNo d) u c q (pass-lt d) hu h z)
 
-  high : (d : Pass) (u c q : ℕ) → u < 32 → c < classes H → q < 2 * halfUnits (ssOf H (other d)) → (6144 ≤ bitIn H d u c q) × (bitIn H d u c q < 10240)
-  high d u c q hu hc hq =
-      go (H .isLuma) m hc
+  height : (d : Pass) (u c q : ℕ) → u < 32 → c < classes H → q < 2 * halfUnits (ssOf H (other d)) → (6144 ≤ bitIn H d u c q) × (bitIn H d u c q < 10240)
+  height d u c q hu hc hq =
+      go (H .luma) m hc
     where
       go : (b : Bool) → b ≡ false → c < cond b 3 2
           → (6144 ≤ cond b (lumaBit (passNo d) u c q) (chromaBit (ssOf H (other d)) (passNo d) u c q))
@@ -183,7 +183,7 @@ module _ (G H : Grid) (P : Proper G) (Q : Proper H) (l : G .isLuma ≡ true) (m 
       omega (
         arith,
         low d (p .0 % side G d) c (p .1 % side G (other d)) (unit-in G P d (p .0)) hc (place-in G P d (p .1)),
-        high e (q .0 % side H e) k (q .1 % side H (other e)) (unit-in H Q e (q .0)) hk (place-in H Q e (q .1)),
+        height e (q .0 % side H e) k (q .1 % side H (other e)) (unit-in H Q e (q .0)) hk (place-in H Q e (q .1)),
       )
 
 -- one class is set: it is the highest

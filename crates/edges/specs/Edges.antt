@@ -22,21 +22,21 @@ use mathlib.Core.Option.{Option, some, none}
 use Prim.Native.Nat.{ℕ, zero, suc, _+_, _*_, _/_, _%_, _^_, _≤_}
 use lib.Dec.{ltb}
 use Rattle.bits.specs.Mark.{isSet}
-use Rattle.plane.specs.Line.{Pass, columns, rows, Piece}
+use Rattle.plane.specs.Line.{Pass, columns, rows, Piece, other, passNo}
 use Rattle.plane.specs.Plane.{right, down}
 use Rattle.units.specs.Frame.{records}
 use Rattle.units.specs.Memory.{lumaWord, chromaWord, halfUnits, lumaBit, chromaBit}
 use Rattle.units.specs.Units.{chromaUnits}
 
 pub record Grid : Type 0 where
-  pub isLuma : Bool
-  pub ssx : ℕ
-  pub ssy : ℕ
+  pub luma : Bool
+  pub ss-hor : ℕ
+  pub ss-ver : ℕ
   pub w4 : ℕ
   pub h4 : ℕ
 
 abbrev pub gridOf : Bool → ℕ → ℕ → ℕ → ℕ → Grid
-gridOf isLuma ssx ssy w4 h4 = record { isLuma = isLuma; ssx = ssx; ssy = ssy; w4 = w4; h4 = h4 }
+gridOf luma ss-hor ss-ver w4 h4 = record { luma = luma; ss-hor = ss-hor; ss-ver = ss-ver; w4 = w4; h4 = h4 }
 
 abbrev pub lumaGrid : ℕ → ℕ → Grid
 lumaGrid w4 h4 = gridOf true 0 0 w4 h4
@@ -45,26 +45,18 @@ abbrev pub chromaGrid : ℕ → ℕ → ℕ → ℕ → Grid
 chromaGrid ss-hor ss-ver w4 h4 = gridOf false ss-hor ss-ver w4 h4
 
 pub record Proper (G : Grid) : Type 0 where
-  pub ssx-le : G .ssx ≤ 1
-  pub ssy-le : G .ssy ≤ 1
-  pub luma-x : G .isLuma ≡ true → G .ssx ≡ 0
-  pub luma-y : G .isLuma ≡ true → G .ssy ≡ 0
-
-abbrev pub other : Pass → Pass
-other columns = rows
-other rows = columns
-
-abbrev pub passNo : Pass → ℕ
-passNo columns = 0
-passNo rows = 1
+  pub ss-hor-le : G .ss-hor ≤ 1
+  pub ss-ver-le : G .ss-ver ≤ 1
+  pub luma-x : G .luma ≡ true → G .ss-hor ≡ 0
+  pub luma-y : G .luma ≡ true → G .ss-ver ≡ 0
 
 abbrev pub ssOf : Grid → Pass → ℕ
-ssOf G columns = G .ssx
-ssOf G rows = G .ssy
+ssOf G columns = G .ss-hor
+ssOf G rows = G .ss-ver
 
 abbrev pub unitsOf : Grid → Pass → ℕ
-unitsOf G columns = chromaUnits (G .ssx) (G .w4)
-unitsOf G rows = chromaUnits (G .ssy) (G .h4)
+unitsOf G columns = chromaUnits (G .ss-hor) (G .w4)
+unitsOf G rows = chromaUnits (G .ss-ver) (G .h4)
 
 abbrev pub side : Grid → Pass → ℕ
 side G d = 32 / 2 ^ ssOf G d
@@ -76,14 +68,14 @@ abbrev pub recordAt : Grid → Pass → ℕ → ℕ → ℕ
 recordAt G d a l = down d (a, l) * records (G .w4) + right d (a, l)
 
 abbrev pub classes : Grid → ℕ
-classes G = cond (G .isLuma) 3 2
+classes G = cond (G .luma) 3 2
 
 abbrev pub wordIn : Grid → Pass → ℕ → ℕ → ℕ → ℕ
-wordIn G d unit class h = cond (G .isLuma) (lumaWord (passNo d) unit class h) (chromaWord (passNo d) unit class h)
+wordIn G d unit class h = cond (G .luma) (lumaWord (passNo d) unit class h) (chromaWord (passNo d) unit class h)
 
 abbrev pub bitIn : Grid → Pass → ℕ → ℕ → ℕ → ℕ
 bitIn G d unit class place =
-    cond (G .isLuma) (lumaBit (passNo d) unit class place) (chromaBit (ssOf G (other d)) (passNo d) unit class place)
+    cond (G .luma) (lumaBit (passNo d) unit class place) (chromaBit (ssOf G (other d)) (passNo d) unit class place)
 
 unfoldable pub edgeBit : Grid → Pass → Piece → ℕ → ℕ
 edgeBit G d p class =

@@ -11,14 +11,14 @@ use Rattle.loops.specs.Table.{Each}
 use Rattle.loops.proofs.Tables.{each-at}
 use Rattle.bits.specs.Bit.{hasBit}
 use Rattle.bits.specs.Mark.{isSet, mark, marks}
-use Rattle.plane.specs.Line.{Pass, columns, rows, Piece}
+use Rattle.plane.specs.Line.{Pass, columns, rows, Piece, other}
 use Rattle.plane.specs.Gap.{Neighbours, Allowed}
 use Rattle.plane.specs.Plane.{class, IsPiece, InRow, Boundary, end}
 use Rattle.plane.proofs.Pieces.{inner-some}
 use Rattle.units.specs.Memory.{lumaBit, chromaBit}
-use Rattle.edges.specs.Edges.{Grid, unitsOf, other, edge, edgeBit}
+use Rattle.edges.specs.Edges.{Grid, unitsOf, edge, edgeBit}
 use Rattle.gap.specs.Line.{atLeast}
-use Rattle.gap.proofs.Told.{edge-in}
+use Rattle.gap.proofs.NumbersMean.{edge-in}
 use Rattle.filter.specs.Filter.{gridOf}
 use Rattle.apply.specs.Apply.{componentOf}
 use Rattle.order.specs.Demand3.{OrderIn}

@@ -23,7 +23,7 @@ use Rattle.checks.proofs.Chain.{marked-number}
 use Rattle.example_frame.specs.Data.{call, bits, masks, levels, quarters, samplesOf, lent}
 use Rattle.example_frame.proofs.Starts.{start, start-tells}
 
--- ---- no sample is too high
+-- ---- no sample is too height
 
 cond-le : (b : Bool) (x y n : ℕ) → x ≤ n → y ≤ n → cond b x y ≤ n
 cond-le true x y n p q = p
@@ -42,9 +42,9 @@ start-le (suc n) i = cond-le (ltb i 4096) _ _ 122 (quarters-le 64 32 i) (omega a
 not-high : (n i : ℕ) → ltb 255 (getD (samplesOf n) i 0) ≡ false
 not-high n i = le-ltb 255 (getD (samplesOf n) i 0) (rw (start-tells n .at i) (omega (arith, start-le n i)))
 
-none-high : (n stride wide sb above k : ℕ) → samplesHigh (samplesOf n) stride 255 wide sb above k ≡ false
+none-high : (n stride width sb above k : ℕ) → samplesHigh (samplesOf n) stride 255 width sb above k ≡ false
 unfolding samplesHigh
-none-high n stride wide sb above k = any-false _ _ (λ y _. any-false wide _ (λ x _. not-high n _))
+none-high n stride width sb above k = any-false _ _ (λ y _. any-false width _ (λ x _. not-high n _))
 
 planes-good : (r : Bool) (k : ℕ) → planesBad (call r k) lent ≡ false
 unfolding planeBad

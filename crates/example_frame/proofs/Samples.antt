@@ -30,10 +30,10 @@ use Rattle.line.proofs.Choices.{sizes}
 use Rattle.line.proofs.Rules.{gives}
 use Rattle.limits.specs.Limits.{limitsOf}
 use Rattle.walk.specs.Walk.{thresholds, lenOf, visit}
-use Rattle.walk.proofs.Leaves.{width}
+use Rattle.walk.proofs.WidthsThresholds.{width}
 use Rattle.walk.proofs.Laws as walk
 use Rattle.filter.specs.Filter.{levelOf}
-use Rattle.filter.proofs.Acts.{act-visit}
+use Rattle.filter.proofs.UnitActs.{act-visit}
 use Rattle.checks.specs.Call.{strideOf}
 use Rattle.apply.specs.Apply.{componentOf, tablesOf}
 use Rattle.example_frame.specs.Data.{head, edgesOf, levels, limits, quarters, samplesOf, lent, planeOf}
@@ -128,7 +128,8 @@ record Values (n : ℕ) : Type 0 where
   rows-first : sweepOf n columns (sweepOf n rows (start n)) (corner n) ≡ 116
 
 values : Each 3 Values
-unfolding quarters anyBelow side change choice Clip3 Round2 limit blimit thresh bounds hevMask filterMask flatMask flatMask2 filter4_clamp baseFilter filter12 moved narrowed narrow wideAt wide standard.changed filtered
+unfolding quarters anyBelow side change choice Clip3 Round2 limit blimit thresh bounds hevMask filterMask flatMask flatMask2 filter4_clamp baseFilter filter12 moved
+    narrowed narrow wideAt wide standard.changed filtered
 values = (
   record { before = refl; after-columns = refl; after-rows = refl; rows-first = refl },
   (

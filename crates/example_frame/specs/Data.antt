@@ -29,13 +29,13 @@ call rowwise k =
       layout = 420;
       superblock = 64;
       depth = 8;
-      levelu = 32;
-      levelv = 32;
+      «level_u» = 32;
+      «level_v» = 32;
       row = k;
       rowwise = rowwise;
-      stride = 128;
-      uvstride = 64;
-      pitch = 4;
+      «luma_stride» = 128;
+      «chroma_stride» = 64;
+      «level_stride» = 4;
     }
 
 abbrev pub head : Call

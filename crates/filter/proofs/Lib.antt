@@ -1,13 +1,13 @@
 -- The numbers and words of a line
-pub mod Leaves
+pub mod LineWords
 -- Where a line lies, and the edges that its words hold
-pub mod Spots
+pub mod UnitPlaces
 pub mod Words
-pub mod Acts
+pub mod UnitActs
 -- What its walk asks for
-pub mod Rooms
+pub mod PieceRooms
 pub mod Ranges
--- The lines of a group, and the groups of a row
+-- The lines of a recordUnits, and the groups of a row
 pub mod Groups
 -- What holds of a pass
 pub mod Sweeps

@@ -20,9 +20,9 @@ use Rattle.filter.specs.declared.Component.{Component}
 use Rattle.filter.specs.Filter.{Tables}
 use Rattle.filter.specs.Ready.{Stored, Fit, Under}
 use Rattle.filter.specs.Lines.{unitAt, lineIn, unitsIn, Inner}
-use Rattle.filter.proofs.Spots.{firstPlace}
-use Rattle.filter.proofs.Acts.{index-is}
-use Rattle.filter.proofs.Rooms.{Reads, reads-at, walkable}
+use Rattle.filter.proofs.UnitPlaces.{firstPlace}
+use Rattle.filter.proofs.UnitActs.{index-is}
+use Rattle.filter.proofs.PieceRooms.{Reads, reads-at, walkable}
 
 -- place q of line j of a piece, where n samples a side are there
 module _ (S j q n u y : ℕ) (h : n ≤ 4 * u) (lo : 8 ≤ q + n) where
@@ -47,48 +47,48 @@ module _ (S j q n u y : ℕ) (h : n ≤ 4 * u) (lo : 8 ≤ q + n) where
       on : (m b : ℕ) → m * S + 4 * y + j * 1 + b * S ≡ (m + b) * S + (4 * y + j)
       on m b = omega arith
 
-module _ (c : Component) (t : Tables) (k g a v n len m : ℕ) (s : Stored c t len) (l : List ℕ) where
-  reached : (d : Pass) → Under m c d k l → Inner c d k g a → Reads c d k g a v n
-      → PieceUnder m n (lineStep d (c .stride)) (sampleStep d (c .stride)) (ix d (c .stride) (4 * (firstPlace c d k g + v)) (4 * unitAt c d k g a)) l
+module _ (c : Component) (t : Tables) (k rec a v n len m : ℕ) (s : Stored c t len) (l : List ℕ) where
+  reached : (d : Pass) → Under m c d k l → Inner c d k rec a → Reads c d k rec a v n
+      → PieceUnder m n (lineStep d (c .stride)) (sampleStep d (c .stride)) (ix d (c .stride) (4 * (firstPlace c d k rec + v)) (4 * unitAt c d k rec a)) l
   reached columns b i r =
       record {
         line = λ j lj. record {
           under = λ q w.
-              rw (column-index (c .stride) j q n (unitAt c columns k g a) (firstPlace c columns k g + v) (r .start) (w .from))
-              (b .under (4 * unitAt c columns k g a + q - 8) (4 * (firstPlace c columns k g + v) + j) (omega (arith, w .from, w .to, r .start, r .end))
-              (omega arith) (omega (arith, r .place, add-mul k 1 (chromaUnit (c .ssy) (c .sb4 .0)))));
+              rw (column-index (c .stride) j q n (unitAt c columns k rec a) (firstPlace c columns k rec + v) (r .start) (w .from))
+              (b .under (4 * unitAt c columns k rec a + q - 8) (4 * (firstPlace c columns k rec + v) + j) (omega (arith, w .from, w .to, r .start, r .end))
+              (omega arith) (omega (arith, r .place, add-mul k 1 (chromaUnit (c .«ss_ver») (c .sb4 .0)))));
         };
       }
   reached rows b i r =
       record {
         line = λ j lj. record {
           under = λ q w.
-              rw (row-index (c .stride) j q n (unitAt c rows k g a) (firstPlace c rows k g + v) (r .start) (w .from))
-              (b .under (4 * (firstPlace c rows k g + v) + j) (4 * unitAt c rows k g a + q - 8)
-              (omega (arith, r .along, units-stored (c .ssx) (c .w4 .0) (s .proper .ssx-le))) (omega (arith, w .from, r .start))
+              rw (row-index (c .stride) j q n (unitAt c rows k rec a) (firstPlace c rows k rec + v) (r .start) (w .from))
+              (b .under (4 * (firstPlace c rows k rec + v) + j) (4 * unitAt c rows k rec a + q - 8)
+              (omega (arith, r .along, units-stored (c .«ss_hor») (c .w4 .0) (s .proper .ss-hor-le))) (omega (arith, w .from, r .start))
               (omega (arith, w .from, w .to, r .start, r .end)));
         };
       }
 
-module _ (c : Component) (t : Tables) (d : Pass) (k g a len m : ℕ) (s : Stored c t len) (f : Fit c t d k) (i : Inner c d k g a)
+module _ (c : Component) (t : Tables) (d : Pass) (k rec a len m : ℕ) (s : Stored c t len) (f : Fit c t d k) (i : Inner c d k rec a)
     (small : (j : ℕ) → getD (t .masks) j 0 < 65536) (l : List ℕ) (b : Under m c d k l) where
   abbrev U : Units
-  U = unitsIn c (t .levels) (lineIn c (t .masks) d k g a)
+  U = unitsIn c (t .levels) (lineIn c (t .masks) d k rec a)
 
   pub in-range : InRange m U l
   in-range =
       record {
-        piece = λ v h. rw (← index-is c k g a v d)
-            (reached c t k g a v (reads (lenAt U v)) len m s l d b i (reads-at c t d k g a len s f i small v h));
+        piece = λ v h. rw (← index-is c k rec a v d)
+            (reached c t k rec a v (reads (lenAt U v)) len m s l d b i (reads-at c t d k rec a len s f i small v h));
       }
 
 -- a walk keeps the samples in range
-pub stays : (c : Component) (t : Tables) (d : Pass) (k g a : ℕ) (l : List ℕ) → Stored c t (length l) → Fit c t d k → Inner c d k g a
+pub stays : (c : Component) (t : Tables) (d : Pass) (k rec a : ℕ) (l : List ℕ) → Stored c t (length l) → Fit c t d k → Inner c d k rec a
     → ((j : ℕ) → getD (t .masks) j 0 < 65536) → 8 ≤ t .depth → Under (2 ^ t .depth) c d k l
-    → Under (2 ^ t .depth) c d k (walked (t .depth) (t .e) (t .i) (unitsIn c (t .levels) (lineIn c (t .masks) d k g a)) l)
+    → Under (2 ^ t .depth) c d k (walked (t .depth) (t .e) (t .i) (unitsIn c (t .levels) (lineIn c (t .masks) d k rec a)) l)
 unfolding walked
-stays c t d k g a l s f i small h b =
+stays c t d k rec a l s f i small h b =
     record {
-      under = λ x y p q r. visits-below (t .depth) (t .e) (t .i) (unitsIn c (t .levels) (lineIn c (t .masks) d k g a)) l h
-          (walkable c t d k g a (length l) s f i small) (in-range c t d k g a (length l) (2 ^ t .depth) s f i small l b) 32 (y * c .stride + x) (b .under x y p q r);
+      under = λ x y p q r. visits-below (t .depth) (t .e) (t .i) (unitsIn c (t .levels) (lineIn c (t .masks) d k rec a)) l h
+          (walkable c t d k rec a (length l) s f i small) (in-range c t d k rec a (length l) (2 ^ t .depth) s f i small l b) 32 (y * c .stride + x) (b .under x y p q r);
     }

@@ -21,16 +21,16 @@ use Rattle.edges.specs.Edges.{unitsOf}
 use Rattle.line.specs.Width.{reads}
 use Rattle.piece.specs.Samples.{PieceUnder}
 use Rattle.walk.specs.Walk.{lenOf, walked}
-use Rattle.walk.proofs.Leaves.{width}
+use Rattle.walk.proofs.WidthsThresholds.{width}
 use Rattle.walk.proofs.Ranges.{visit-below, visits-below}
 use Rattle.filter.specs.declared.Component.{Component}
 use Rattle.filter.specs.Filter.{Tables, gridOf, levelOf, planeOf, firstAcross, firstAlong, across, along, lineOf, sweepOf}
 use Rattle.filter.specs.Ready.{Stored, Fit, Under}
 use Rattle.filter.specs.Lines.{unitAt, unitsAcross, lineIn, unitsIn, Inner}
 use Rattle.filter.specs.Promises.{Promises}
-use Rattle.filter.proofs.Spots.{places-le}
-use Rattle.filter.proofs.Acts.{reads-is, act-visit, line-walked}
-use Rattle.filter.proofs.Rooms.{walkable}
+use Rattle.filter.proofs.UnitPlaces.{places-le}
+use Rattle.filter.proofs.UnitActs.{reads-is, act-visit, line-walked}
+use Rattle.filter.proofs.PieceRooms.{walkable}
 use Rattle.filter.proofs.Ranges.{in-range, stays}
 use Rattle.filter.proofs.Groups.{at-start, past-end}
 
@@ -48,21 +48,21 @@ module _ (n : ℕ) where
   abbrev Long : List ℕ → Type 0
   Long s = length s ≡ n
 
-  piece-keeps : (sa st : ℕ) (r : Rule) (q : ℕ) (s : List ℕ) → Long s → Long (pieceAt sa st r q s)
+  piece-keeps : (line-step sample-step : ℕ) (r : Rule) (q : ℕ) (s : List ℕ) → Long s → Long (pieceAt line-step sample-step r q s)
   unfolding pieceAt lineAt changed
-  piece-keeps sa st r q = upTo-holds Long (λ i. lineAt st r (q + i * sa)) 4 (λ i l s h. put-keeps st _ _ s ∙ h)
+  piece-keeps line-step sample-step r q = upTo-holds Long (λ i. lineAt sample-step r (q + i * line-step)) 4 (λ i l s h. put-keeps sample-step _ _ s ∙ h)
 
   act-keeps : (P : Plane) (d : Pass) (p : Piece) (s : List ℕ) → Long s → Long (act P d p s)
   unfolding act piece
   act-keeps P d p = piece-keeps (lineStep d (P .stride)) (sampleStep d (P .stride)) (ruleOf P d p (class P d p)) (ix d (P .stride) (4 * p .1) (4 * p .0))
 
-  line-keeps : (P : Plane) (d : Pass) (k g a : ℕ) (s : List ℕ) → Long s → Long (lineOf P d k g a s)
+  line-keeps : (P : Plane) (d : Pass) (k rec a : ℕ) (s : List ℕ) → Long s → Long (lineOf P d k rec a s)
   unfolding lineOf
-  line-keeps P d k g a = upTo-holds Long _ (along P d) (λ v _. act-keeps P d (firstAcross P d k g + a, firstAlong P d k g + v))
+  line-keeps P d k rec a = upTo-holds Long _ (along P d) (λ v _. act-keeps P d (firstAcross P d k rec + a, firstAlong P d k rec + v))
 
   sweep-keeps : (P : Plane) (d : Pass) (k : ℕ) (s : List ℕ) → Long s → Long (sweepOf P d k s)
   unfolding sweepOf
-  sweep-keeps P d k = upTo-holds Long _ (P .groups) (λ g _. upTo-holds Long _ (across P d) (λ a _. line-keeps P d k g a))
+  sweep-keeps P d k = upTo-holds Long _ (P .records) (λ rec _. upTo-holds Long _ (across P d) (λ a _. line-keeps P d k rec a))
 
 -- ---- range
 
@@ -88,43 +88,43 @@ module _ (c : Component) (t : Tables) (d : Pass) (p : Piece) (s : List ℕ) (h :
           (subst (λ (n : ℕ). PieceUnder (2 ^ t .depth) n (lineStep d (c .stride)) (sampleStep d (c .stride)) (ix d (c .stride) (4 * p .1) (4 * p .0)) s) r (x .1)) j l)
       go none e = rw (idle (planeOf c t) d p e s) l
 
-module _ (c : Component) (t : Tables) (k len j : ℕ) (st : Stored c t len) (w : (i : ℕ) → getD (t .masks) i 0 < 65536) (h : 8 ≤ t .depth) where
+module _ (c : Component) (t : Tables) (k len j : ℕ) (sample-step : Stored c t len) (w : (i : ℕ) → getD (t .masks) i 0 < 65536) (h : 8 ≤ t .depth) where
   -- what a line keeps
   abbrev Low : Pass → List ℕ → Type 0
   Low d s = (length s ≡ len) × Under (2 ^ t .depth) c d k s × (getD s j 0 < 2 ^ t .depth)
 
-  inside : (d : Pass) (g a : ℕ) → a < across (planeOf c t) d → unitAt c d k g a < unitsOf (gridOf c) d → a < unitsAcross c d k g
-  inside columns g a x y = omega arith
-  inside rows g a x y = omega arith
+  inside : (d : Pass) (rec a : ℕ) → a < across (planeOf c t) d → unitAt c d k rec a < unitsOf (gridOf c) d → a < unitsAcross c d k rec
+  inside columns rec a x y = omega arith
+  inside rows rec a x y = omega arith
 
   module _ (d : Pass) (f : Fit c t d k) where
-    walk-range : (g a : ℕ) (s : List ℕ) → Inner c d k g a → Low d s → Low d (lineOf (planeOf c t) d k g a s)
+    walk-range : (rec a : ℕ) (s : List ℕ) → Inner c d k rec a → Low d s → Low d (lineOf (planeOf c t) d k rec a s)
     unfolding walked
-    walk-range g a s i b =
-        let S : Stored c t (length s) = subst (Stored c t) (sym (b .0)) st in
-        let e = line-walked c t k g a len st d f i w (places-le c t k g a len st d) s in (
-          line-keeps len (planeOf c t) d k g a s (b .0),
-          subst (Under (2 ^ t .depth) c d k) (sym e) (stays c t d k g a s S f i w h (b .1)),
+    walk-range rec a s i b =
+        let S : Stored c t (length s) = subst (Stored c t) (sym (b .0)) sample-step in
+        let e = line-walked c t k rec a len sample-step d f i w (places-le c t k rec a len sample-step d) s in (
+          line-keeps len (planeOf c t) d k rec a s (b .0),
+          subst (Under (2 ^ t .depth) c d k) (sym e) (stays c t d k rec a s S f i w h (b .1)),
           subst (λ (l : List ℕ). getD l j 0 < 2 ^ t .depth) (sym e)
-              (visits-below (t .depth) (t .e) (t .i) (unitsIn c (t .levels) (lineIn c (t .masks) d k g a)) s h
-              (walkable c t d k g a (length s) S f i w) (in-range c t d k g a (length s) (2 ^ t .depth) S f i w s (b .1)) 32 j (b .2)),
+              (visits-below (t .depth) (t .e) (t .i) (unitsIn c (t .levels) (lineIn c (t .masks) d k rec a)) s h
+              (walkable c t d k rec a (length s) S f i w) (in-range c t d k rec a (length s) (2 ^ t .depth) S f i w s (b .1)) 32 j (b .2)),
         )
 
-    line-range : (g a : ℕ) → g < records (c .w4 .0) → a < across (planeOf c t) d → (s : List ℕ) → Low d s → Low d (lineOf (planeOf c t) d k g a s)
-    line-range g a lg la s b =
-        by-cases (ℕ-discrete (unitAt c d k g a) 0) (λ e. subst (Low d) (sym (at-start c t d k g a s e)) b)
-        (λ n. by-cases (decLt (unitAt c d k g a) (unitsOf (gridOf c) d))
-        (λ x. walk-range g a s (record { group = lg; unit = inside d g a la x; first = omega arith }) b)
-        (λ x. subst (Low d) (sym (past-end c t d k g a s (omega arith))) b))
+    line-range : (rec a : ℕ) → rec < records (c .w4 .0) → a < across (planeOf c t) d → (s : List ℕ) → Low d s → Low d (lineOf (planeOf c t) d k rec a s)
+    line-range rec a lg la s b =
+        by-cases (ℕ-discrete (unitAt c d k rec a) 0) (λ e. subst (Low d) (sym (at-start c t d k rec a s e)) b)
+        (λ n. by-cases (decLt (unitAt c d k rec a) (unitsOf (gridOf c) d))
+        (λ x. walk-range rec a s (record { recordUnits = lg; unit = inside d rec a la x; first = omega arith }) b)
+        (λ x. subst (Low d) (sym (past-end c t d k rec a s (omega arith))) b))
 
     row-range : (s : List ℕ) → Low d s → Low d (sweepOf (planeOf c t) d k s)
     unfolding sweepOf
-    row-range = upTo-holds (Low d) _ (records (c .w4 .0)) (λ g lg. upTo-holds (Low d) _ (across (planeOf c t) d) (λ a la. line-range g a lg la))
+    row-range = upTo-holds (Low d) _ (records (c .w4 .0)) (λ rec lg. upTo-holds (Low d) _ (across (planeOf c t) d) (λ a la. line-range rec a lg la))
 
 sweep-range : (c : Component) (t : Tables) (d : Pass) (k : ℕ) (s : List ℕ) → Stored c t (length s) → Fit c t d k → Words (t .masks) → 8 ≤ t .depth
     → Under (2 ^ t .depth) c d k s → (j : ℕ) → getD s j 0 < 2 ^ t .depth → getD (sweepOf (planeOf c t) d k s) j 0 < 2 ^ t .depth
 unfolding Words
-sweep-range c t d k s st f w h b j l = row-range c t k (length s) j st w h d f s (refl, b, l) .2
+sweep-range c t d k s sample-step f w h b j l = row-range c t k (length s) j sample-step w h d f s (refl, b, l) .2
 
 pub promises : Promises
 promises =

@@ -15,9 +15,9 @@ use borrow.Author.Tests.{lt-ltb, le-ltb, eq-eqb, ne-eqb}
 use Rattle.bits.specs.Bit.{bit, hasBit}
 use Rattle.bits.specs.Mark.{isSet}
 use Rattle.bits.proofs.Bits.{hasBit-0, hasBit-or, hasBit-nil, has-of-bit, bit-small, bit-low, bit-high, bit-nil}
-use Rattle.plane.specs.Line.{Pass}
+use Rattle.plane.specs.Line.{Pass, other, passNo}
 use Rattle.units.specs.Frame.{records}
-use Rattle.edges.specs.Edges.{Grid, other, unitsOf, half, passNo, recordAt, classes, wordIn, edgeBit, highest, edge}
+use Rattle.edges.specs.Edges.{Grid, unitsOf, half, recordAt, classes, wordIn, edgeBit, highest, edge}
 use Rattle.gap.specs.Lines.{recordRow}
 use Rattle.gap.specs.Numbers.{halfBit}
 use Rattle.gap.specs.Track.{stepOf, startOf}
@@ -28,14 +28,14 @@ use Rattle.filter.specs.declared.Component.{Component}
 use Rattle.filter.specs.Filter.{Tables, gridOf}
 use Rattle.filter.specs.Ready.{Stored, Fit}
 use Rattle.filter.specs.Lines.{unitAt, unitIn, maskAt, firstHalf, halvesOf, halvesAt, classAt, wordOf, lineIn, unitsIn, Inner}
-use Rattle.filter.proofs.Spots.{recAlong, firstPlace, places, Spot, spot}
+use Rattle.filter.proofs.UnitPlaces.{recAlong, firstPlace, places, Spot, spot}
 
 -- ---- two halves of h bits in one word
 
 -- a half that has no bit from h on
 over : (m h : ℕ) → m < 2 ^ 16 → ((b : ℕ) → h ≤ b → b < 16 → hasBit m b ≡ false) → (v : ℕ) → h ≤ v → hasBit m v ≡ false
-over m h l f v g =
-    by-cases (decLt v 16) (λ x. f v g x)
+over m h l f v rec =
+    by-cases (decLt v 16) (λ x. f v rec x)
     (λ x. let e : 16 ≤ v = omega arith in hasBit-0 m v (bit-small m v (omega (arith, pow-mono {i = 16} {j = v} e))))
 
 shifted : (hi h : ℕ) → hi * 2 ^ h ≡ hi * 2 ^ h + 0
@@ -49,8 +49,8 @@ module _ (lo hi h : ℕ) where
       (hasBit-0 (hi * 2 ^ h) v (ap (λ (n : ℕ). bit n v) (shifted hi h) ∙ bit-low hi 0 h v (pow-pos h) l ∙ bit-nil v))
       ∙ or-false (hasBit lo v)
 
-  high : (v : ℕ) → hasBit lo (h + v) ≡ false → hasBit (bitOr lo (hi * 2 ^ h)) (h + v) ≡ hasBit hi v
-  high v e =
+  height : (v : ℕ) → hasBit lo (h + v) ≡ false → hasBit (bitOr lo (hi * 2 ^ h)) (h + v) ≡ hasBit hi v
+  height v e =
       hasBit-or lo (hi * 2 ^ h) (h + v)
       ∙ ap₂ _||_ e (ap (λ (n : ℕ). hasBit n (h + v)) (shifted hi h) ∙ has-of-bit _ _ (h + v) v (bit-high hi 0 h v (pow-pos h)))
 
@@ -78,17 +78,17 @@ pick false false false = refl
 
 -- ---- the line
 
-module _ (c : Component) (t : Tables) (d : Pass) (k g a len : ℕ) (s : Stored c t len) (f : Fit c t d k) (i : Inner c d k g a)
+module _ (c : Component) (t : Tables) (d : Pass) (k rec a len : ℕ) (s : Stored c t len) (f : Fit c t d k) (i : Inner c d k rec a)
     (small : (j : ℕ) → getD (t .masks) j 0 < 65536) where
   abbrev G : Grid
   G = gridOf c
 
   -- its place across the pass, its record along it, its first half and its halves, and the units of a half
   abbrev u : ℕ
-  u = unitAt c d k g a
+  u = unitAt c d k rec a
 
   abbrev r : ℕ
-  r = recAlong c d k g
+  r = recAlong c d k rec
 
   abbrev o : ℕ
   o = firstHalf c d k
@@ -99,8 +99,8 @@ module _ (c : Component) (t : Tables) (d : Pass) (k g a len : ℕ) (s : Stored c
   abbrev h : ℕ
   h = half G d
 
-  sp : Spot c d k g a
-  sp = spot c t k g a len s d (f .row) i
+  sp : Spot c d k rec a
+  sp = spot c t k rec a len s d (f .row) i
 
   word-set : (w b : ℕ) → b < 16 → hasBit (getD (t .masks) w 0) b ≡ isSet (t .masks) (16 * w + b)
   unfolding isSet
@@ -109,12 +109,12 @@ module _ (c : Component) (t : Tables) (d : Pass) (k g a len : ℕ) (s : Stored c
       let y : b ≡ (16 * w + b) % 16 = omega arith in
       (λ q. hasBit (getD (t .masks) (x q) 0) (y q))
 
-  place : (class j b : ℕ) → j < 2 → 16 * (maskAt c d k g a + 2 * class + j) + b ≡ halfBit G d u class (r * 2 + j) b
+  place : (class j b : ℕ) → j < 2 → 16 * (maskAt c d k rec a + 2 * class + j) + b ≡ halfBit G d u class (r * 2 + j) b
   unfolding maskAt halfBit
   place class j b l =
       let x : (r * 2 + j) / 2 ≡ r = omega arith in
       let y : (r * 2 + j) % 2 ≡ j = omega arith in
-      sum (recordRow (c .sb4 .0) k * records (c .w4 .0) + g) (startOf (eqb (c .plane) 0) (passNo d)) (stepOf (eqb (c .plane) 0) * unitIn c d k a) class j b
+      sum (recordRow (c .sb4 .0) k * records (c .w4 .0) + rec) (startOf (eqb (c .plane) 0) (passNo d)) (stepOf (eqb (c .plane) 0) * unitIn c d k a) class j b
       ∙ ap₂ (λ (m w : ℕ). 10240 * m + (16 * w + b)) (sym (sp .number)) (sym (word-in G d (unitIn c d k a) class j))
       ∙ (λ q. 10240 * recordAt G d (sym (sp .across) q) (sym x q) + (16 * wordIn G d (sym (sp .unit) q) class (sym y q) + b))
     where
@@ -122,8 +122,8 @@ module _ (c : Component) (t : Tables) (d : Pass) (k g a len : ℕ) (s : Stored c
       sum m start step class j b = omega arith
 
   half-bit : (class j b : ℕ) → j < 2 → b < 16
-      → hasBit (getD (t .masks) (maskAt c d k g a + 2 * class + j) 0) b ≡ isSet (t .masks) (halfBit G d u class (r * 2 + j) b)
-  half-bit class j b lj lb = word-set (maskAt c d k g a + 2 * class + j) b lb ∙ ap (isSet (t .masks)) (place class j b lj)
+      → hasBit (getD (t .masks) (maskAt c d k rec a + 2 * class + j) 0) b ≡ isSet (t .masks) (halfBit G d u class (r * 2 + j) b)
+  half-bit class j b lj lb = word-set (maskAt c d k rec a + 2 * class + j) b lb ∙ ap (isSet (t .masks)) (place class j b lj)
 
   -- number 12
   refused : (class j b : ℕ) → class < classes G → j < n → b < 16
@@ -148,14 +148,14 @@ module _ (c : Component) (t : Tables) (d : Pass) (k g a len : ℕ) (s : Stored c
           }))
       go false e = refl
 
-  half-over : (class j : ℕ) → class < classes G → j < n → (v : ℕ) → h ≤ v → hasBit (getD (t .masks) (maskAt c d k g a + 2 * class + (o + j)) 0) v ≡ false
+  half-over : (class j : ℕ) → class < classes G → j < n → (v : ℕ) → h ≤ v → hasBit (getD (t .masks) (maskAt c d k rec a + 2 * class + (o + j)) 0) v ≡ false
   half-over class j lc lj =
-      over (getD (t .masks) (maskAt c d k g a + 2 * class + (o + j)) 0) h (small (maskAt c d k g a + 2 * class + (o + j)))
+      over (getD (t .masks) (maskAt c d k rec a + 2 * class + (o + j)) 0) h (small (maskAt c d k rec a + 2 * class + (o + j)))
       (λ b x l. half-bit class (o + j) b (omega (arith, sp .two)) l ∙ refused class j b lc lj l (inl x))
 
   module _ (class : ℕ) (lc : class < classes G) where
     abbrev at : ℕ
-    at = maskAt c d k g a + 2 * class
+    at = maskAt c d k rec a + 2 * class
 
     -- bit v is bit v % h of half v / h
     word-bit : (v : ℕ) → v < n * h → hasBit (halvesAt (t .masks) at o n h) v ≡ hasBit (getD (t .masks) (at + (o + v / h)) 0) (v % h)
@@ -181,7 +181,7 @@ module _ (c : Component) (t : Tables) (d : Pass) (k g a len : ℕ) (s : Stored c
             let b = along G (s .proper) d in
             let w : at + 1 ≡ at + (o + v / h) = omega (arith, sp .two, ap (λ (w : ℕ). w / h) y₁ ∙ b .halfNo 1 (v - h) m) in
             ap (hasBit (bitOr (getD (t .masks) at 0) (getD (t .masks) (at + 1) 0 * 2 ^ h))) y
-            ∙ high (getD (t .masks) at 0) (getD (t .masks) (at + 1) 0) h (v - h)
+            ∙ height (getD (t .masks) at 0) (getD (t .masks) (at + 1) 0) h (v - h)
             (ap (λ (w : ℕ). hasBit (getD (t .masks) w 0) (h + (v - h))) (omega (arith, sp .two)) ∙ half-over class 0 lc (omega (arith, sp .some)) (h + (v - h)) (omega arith))
             ∙ (λ q. hasBit (getD (t .masks) (w q) 0) (sym (ap (λ (w : ℕ). w % h) y₁ ∙ b .bit 1 (v - h) m) q))))
 
@@ -201,7 +201,7 @@ module _ (c : Component) (t : Tables) (d : Pass) (k g a len : ℕ) (s : Stored c
             let y : v ≡ h + (v - h) = omega arith in
             rw (eq-eqb n 2 e)
             (ap (hasBit (bitOr (getD (t .masks) at 0) (getD (t .masks) (at + 1) 0 * 2 ^ h))) y
-            ∙ high (getD (t .masks) at 0) (getD (t .masks) (at + 1) 0) h (v - h)
+            ∙ height (getD (t .masks) at 0) (getD (t .masks) (at + 1) 0) h (v - h)
             (ap (λ (w : ℕ). hasBit (getD (t .masks) w 0) (h + (v - h))) (omega (arith, sp .two)) ∙ half-over class 0 lc (omega arith) (h + (v - h)) (omega arith))
             ∙ ap (λ (w : ℕ). hasBit (getD (t .masks) w 0) (v - h)) (omega (arith, sp .two))
             ∙ half-over class 1 lc (omega arith) (v - h) m)
@@ -216,7 +216,7 @@ module _ (c : Component) (t : Tables) (d : Pass) (k g a len : ℕ) (s : Stored c
   -- ---- the edge at place v
 
   abbrev U : Units
-  U = unitsIn c (t .levels) (lineIn c (t .masks) d k g a)
+  U = unitsIn c (t .levels) (lineIn c (t .masks) d k rec a)
 
   set-in : (v : ℕ) → hasBit (setIn U) v ≡ ((hasBit (U .m₀) v || hasBit (U .m₁) v) || hasBit (U .m₂) v)
   set-in v = hasBit-or (bitOr (U .m₀) (U .m₁)) (U .m₂) v ∙ ap (λ (b : Bool). b || hasBit (U .m₂) v) (hasBit-or (U .m₀) (U .m₁) v)
@@ -235,10 +235,10 @@ module _ (c : Component) (t : Tables) (d : Pass) (k g a len : ℕ) (s : Stored c
     nth : v / h < n
     nth = let p : 0 < h = omega (arith, along G (s .proper) d .bit-of v) in div-lt-iff-lt-mul p .1 in-halves
 
-    at-place : firstPlace c d k g + v ≡ (r * 2 + (o + v / h)) * h + v % h
+    at-place : firstPlace c d k rec + v ≡ (r * 2 + (o + v / h)) * h + v % h
     at-place = omega (arith, sp .first, along G (s .proper) d .again v)
 
-    edge-at : (class : ℕ) → edgeBit G d (u, firstPlace c d k g + v) class ≡ halfBit G d u class (r * 2 + (o + v / h)) (v % h)
+    edge-at : (class : ℕ) → edgeBit G d (u, firstPlace c d k rec + v) class ≡ halfBit G d u class (r * 2 + (o + v / h)) (v % h)
     edge-at class =
         ap (λ (y : ℕ). edgeBit G d (u, y) class) at-place
         ∙ edge-bit G (s .proper) d u class (r * 2 + (o + v / h)) (v % h) (along G (s .proper) d .bit-of v)
@@ -247,7 +247,7 @@ module _ (c : Component) (t : Tables) (d : Pass) (k g a len : ℕ) (s : Stored c
     bit-lt = omega (arith, along G (s .proper) d .bit-of v, along G (s .proper) d .most)
 
     set-bit : (class : ℕ) → class < classes G
-        → hasBit (wordOf c (t .masks) d k g a class) v ≡ isSet (t .masks) (edgeBit G d (u, firstPlace c d k g + v) class)
+        → hasBit (wordOf c (t .masks) d k rec a class) v ≡ isSet (t .masks) (edgeBit G d (u, firstPlace c d k rec + v) class)
     unfolding classAt
     set-bit class lc =
         rw (lt-ltb class (classes G) lc)
@@ -255,37 +255,37 @@ module _ (c : Component) (t : Tables) (d : Pass) (k g a len : ℕ) (s : Stored c
         ∙ half-bit class (o + v / h) (v % h) (omega (arith, nth, sp .two)) bit-lt
         ∙ ap (isSet (t .masks)) (sym (edge-at class)))
 
-    past-frame : unitsOf G (other d) ≤ firstPlace c d k g + v → (class : ℕ) → class < classes G
-        → isSet (t .masks) (edgeBit G d (u, firstPlace c d k g + v) class) ≡ false
+    past-frame : unitsOf G (other d) ≤ firstPlace c d k rec + v → (class : ℕ) → class < classes G
+        → isSet (t .masks) (edgeBit G d (u, firstPlace c d k rec + v) class) ≡ false
     past-frame x class lc =
         ap (isSet (t .masks)) (edge-at class) ∙ refused class (v / h) (v % h) lc nth bit-lt (inr (inr (omega (arith, at-place))))
 
-    edge-is : edge G (t .masks) d (u, firstPlace c d k g + v)
-        ≡ highest (classes G) (λ class. isSet (t .masks) (edgeBit G d (u, firstPlace c d k g + v) class))
+    edge-is : edge G (t .masks) d (u, firstPlace c d k rec + v)
+        ≡ highest (classes G) (λ class. isSet (t .masks) (edgeBit G d (u, firstPlace c d k rec + v) class))
     unfolding edge
     edge-is =
-        by-cases (decLt (firstPlace c d k g + v) (unitsOf G (other d)))
-        (λ x. rw (lt-ltb u (unitsOf G d) (sp .inside), lt-ltb (firstPlace c d k g + v) (unitsOf G (other d)) x) refl)
-        (λ x. rw (lt-ltb u (unitsOf G d) (sp .inside), le-ltb (firstPlace c d k g + v) (unitsOf G (other d)) (omega arith))
+        by-cases (decLt (firstPlace c d k rec + v) (unitsOf G (other d)))
+        (λ x. rw (lt-ltb u (unitsOf G d) (sp .inside), lt-ltb (firstPlace c d k rec + v) (unitsOf G (other d)) x) refl)
+        (λ x. rw (lt-ltb u (unitsOf G d) (sp .inside), le-ltb (firstPlace c d k rec + v) (unitsOf G (other d)) (omega arith))
         (sym (none-set (classes G) _ (past-frame (omega arith)))))
 
     third : (z : Bool) → eqb (c .plane) 0 ≡ z
-        → cond z (isSet (t .masks) (edgeBit G d (u, firstPlace c d k g + v) 2)) false ≡ hasBit (wordOf c (t .masks) d k g a 2) v
+        → cond z (isSet (t .masks) (edgeBit G d (u, firstPlace c d k rec + v) 2)) false ≡ hasBit (wordOf c (t .masks) d k rec a 2) v
     unfolding classAt
     third true e = sym (set-bit 2 (rw e (omega arith)))
     third false e = rw e (sym (hasBit-nil v))
 
     -- the edge at a set place is of the highest class set, and at no other place is there one
-    pub picked : edge G (t .masks) d (u, firstPlace c d k g + v)
+    pub picked : edge G (t .masks) d (u, firstPlace c d k rec + v)
         ≡ cond (hasBit (setIn U) v) (some (walk.highest (U .m₁) (U .m₂) v)) none
     picked =
         edge-is
-        ∙ three (eqb (c .plane) 0) (λ class. isSet (t .masks) (edgeBit G d (u, firstPlace c d k g + v) class))
+        ∙ three (eqb (c .plane) 0) (λ class. isSet (t .masks) (edgeBit G d (u, firstPlace c d k rec + v) class))
         ∙ (λ q. cond (third (eqb (c .plane) 0) refl q) (some 2) (cond (sym (set-bit 1 (few 1 (omega arith))) q) (some 1) (cond (sym (set-bit 0 (few 0 (omega arith))) q) (some 0) none)))
         ∙ pick (hasBit (U .m₀) v) (hasBit (U .m₁) v) (hasBit (U .m₂) v)
         ∙ ap (λ (b : Bool). cond b (some (walk.highest (U .m₁) (U .m₂) v)) none) (sym (set-in v))
 
-  over-class : (class v : ℕ) → places c d ≤ v → hasBit (wordOf c (t .masks) d k g a class) v ≡ false
+  over-class : (class v : ℕ) → places c d ≤ v → hasBit (wordOf c (t .masks) d k rec a class) v ≡ false
   unfolding classAt
   over-class class v l =
       by-cases (decLt class (classes G)) (λ x. rw (lt-ltb class (classes G) x) (word-over class x v (omega (arith, sp .many))))

@@ -3,25 +3,25 @@
 --   tables                   of these
 --   passOf rows              the pass
 --   gridOf c                 the plane's units
---   kindOf c d               its level byte in a pass: 0 luma columns, 1 luma rows, 2 U, 3 V
+--   areaOf c d               its level byte in a pass: 0 luma columns, 1 luma rows, 2 U, 3 V
 --   levelIn c t d p          the level byte of the unit p
 --   before p                 the unit before the edge at p
 --   levelOf c t d p          the level used there
 --   ruleOf c t d cls p       what the piece at p does to a line: nothing at level 0
 --   planeOf c t              the plane
---   firstAcross, firstAlong, across, along, sweepOf     colsOf and rowsOf in one: in each group the units across the pass, at each the units along it
+--   firstAcross, firstAlong, across, along, sweepOf     colsOf and rowsOf in one: in each recordUnits the units across the pass, at each the units along it
 use mathlib.Core.Bool.{Bool, cond, not}
 use mathlib.Core.List.{List, []}
 use Prim.Native.Nat.{ℕ, suc, _+_, _-_, _*_}
 use lib.Dec.{eqb}
 use lib.ListN.{getD}
 use Rattle.loops.specs.Run.{upTo}
-use Rattle.plane.specs.Line.{Pass, columns, rows, Piece, Change}
+use Rattle.plane.specs.Line.{Pass, columns, rows, Piece, Change, passNo}
 use Rattle.plane.specs.Plane.{Plane, luma, chroma, act, right, down}
 use Rattle.units.specs.Frame.{records, superblocks}
 use Rattle.units.specs.Memory.{levelAt}
 use Rattle.units.specs.Units.{chromaUnit}
-use Rattle.edges.specs.Edges.{Grid, passNo, side, edge}
+use Rattle.edges.specs.Edges.{Grid, side, edge}
 use Rattle.line.specs.Rule.{rule}
 use Rattle.view.specs.Level.{levelUsed}
 use Rattle.walk.specs.Walk.{thresholds, lenOf}
@@ -37,17 +37,14 @@ pub record Tables : Type 0 where
 abbrev pub tables : ℕ → List ℕ → List ℕ → List ℕ → List ℕ → Tables
 tables depth levels masks e i = record { depth = depth; levels = levels; masks = masks; e = e; i = i }
 
-abbrev pub passOf : Bool → Pass
-passOf rowwise = cond rowwise rows columns
-
 abbrev pub gridOf : Component → Grid
-gridOf c = record { isLuma = eqb (c .plane) 0; ssx = c .ssx; ssy = c .ssy; w4 = c .w4 .0; h4 = c .h4 .0 }
+gridOf c = record { luma = eqb (c .plane) 0; ss-hor = c .«ss_hor»; ss-ver = c .«ss_ver»; w4 = c .w4 .0; h4 = c .h4 .0 }
 
-abbrev pub kindOf : Component → Pass → ℕ
-kindOf c d = cond (eqb (c .plane) 0) (passNo d) (suc (c .plane))
+abbrev pub areaOf : Component → Pass → ℕ
+areaOf c d = cond (eqb (c .plane) 0) (passNo d) (suc (c .plane))
 
 abbrev pub levelIn : Component → Tables → Pass → Piece → ℕ
-levelIn c t d p = getD (t .levels) (levelAt (c .pitch) (right d p) (down d p) (kindOf c d)) 0
+levelIn c t d p = getD (t .levels) (levelAt (c .«level_stride») (right d p) (down d p) (areaOf c d)) 0
 
 abbrev pub before : Piece → Piece
 before p = (p .0 - 1, p .1)
@@ -66,11 +63,11 @@ abbrev pub planeOf : Component → Tables → Plane
 planeOf c t =
     record {
       stride = c .stride;
-      group = side (gridOf c) columns;
-      groups = records (c .w4 .0);
-      sb = chromaUnit (c .ssy) (c .sb4 .0);
+      recordUnits = side (gridOf c) columns;
+      records = records (c .w4 .0);
+      sb = chromaUnit (c .«ss_ver») (c .sb4 .0);
       sbs = superblocks (c .h4 .0) (c .sb4 .0);
-      high = records (c .h4 .0) * side (gridOf c) rows;
+      height = records (c .h4 .0) * side (gridOf c) rows;
       widths = cond (eqb (c .plane) 0) luma chroma;
       edge = edge (gridOf c) (t .masks);
       rule = ruleOf c t;
@@ -78,23 +75,23 @@ planeOf c t =
 
 module _ (P : Plane) where
   abbrev pub firstAcross : Pass → ℕ → ℕ → ℕ
-  firstAcross columns k g = g * P .group
-  firstAcross rows k g = k * P .sb
+  firstAcross columns k rec = rec * P .recordUnits
+  firstAcross rows k rec = k * P .sb
 
   abbrev pub firstAlong : Pass → ℕ → ℕ → ℕ
-  firstAlong columns k g = k * P .sb
-  firstAlong rows k g = g * P .group
+  firstAlong columns k rec = k * P .sb
+  firstAlong rows k rec = rec * P .recordUnits
 
   abbrev pub across : Pass → ℕ
-  across columns = P .group
+  across columns = P .recordUnits
   across rows = P .sb
 
   abbrev pub along : Pass → ℕ
   along columns = P .sb
-  along rows = P .group
+  along rows = P .recordUnits
 
   unfoldable pub lineOf : Pass → ℕ → ℕ → ℕ → List ℕ → List ℕ
-  lineOf d k g a = upTo (λ v. act P d (firstAcross d k g + a, firstAlong d k g + v)) (along d)
+  lineOf d k rec a = upTo (λ v. act P d (firstAcross d k rec + a, firstAlong d k rec + v)) (along d)
 
   unfoldable pub sweepOf : Pass → ℕ → List ℕ → List ℕ
-  sweepOf d k = upTo (λ g. upTo (lineOf d k g) (across d)) (P .groups)
+  sweepOf d k = upTo (λ rec. upTo (lineOf d k rec) (across d)) (P .records)

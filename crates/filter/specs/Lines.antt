@@ -1,4 +1,4 @@
--- One line of units of superblock row k and group g as it is walked, the a-th across the pass.
+-- One line of units of superblock row k and recordUnits rec as it is walked, the a-th across the pass.
 --   leftOf, topOf           its first unit, to the right and down
 --   unitAt                  its place across the pass
 --   acrossOf, unitsAcross   how many such lines there are, and how many of them lie in the frame
@@ -11,7 +11,7 @@
 --   wordOf                  that of the line
 --   alongStep, backStep     from a level byte to the next, and back to the unit before the edge
 --   lineIn, unitsIn         the line, as the code has it and as `walk` takes it
---   groupOf                 what is done along the lines of a group
+--   recordSweep                 what is done along the lines of a recordUnits
 --   Counted                 what the numbers of a line ask: no sum wraps, and the masks hold the record
 --   Inner                   the line lies in the frame, and not at its start
 use mathlib.Core.Path.{_≡_}
@@ -23,50 +23,50 @@ use lib.Bits.{bitOr}
 use lib.Dec.{eqb, ltb}
 use lib.ListN.{getD}
 use Rattle.loops.specs.Run.{upTo}
-use Rattle.plane.specs.Line.{Pass, columns, rows, lineStep, sampleStep}
+use Rattle.plane.specs.Line.{Pass, columns, rows, lineStep, sampleStep, passNo}
 use Rattle.plane.specs.Plane.{Plane}
 use Rattle.units.specs.Frame.{records}
 use Rattle.units.specs.Memory.{levelAt}
 use Rattle.units.specs.Units.{chromaUnit}
-use Rattle.edges.specs.Edges.{Proper, passNo, unitsOf, side, half}
+use Rattle.edges.specs.Edges.{Proper, unitsOf, side, half}
 use Rattle.gap.specs.Lines.{inRecord, recordRow, firstLine, rowUnits}
 use Rattle.gap.specs.Track.{stepOf, startOf}
 use Rattle.walk.specs.Walk.{Units, units}
 use Rattle.filter.specs.declared.Component.{Component}
-use Rattle.filter.specs.declared.lines.Line.{Line}
-use Rattle.filter.specs.Filter.{gridOf, kindOf, across, lineOf}
+use Rattle.filter.specs.declared.lines.UnitLine.{UnitLine}
+use Rattle.filter.specs.Filter.{gridOf, areaOf, across, lineOf}
 
 abbrev pub leftOf : Component → Pass → ℕ → ℕ → ℕ
-leftOf c columns g a = g * side (gridOf c) columns + a
-leftOf c rows g a = g * side (gridOf c) columns
+leftOf c columns rec a = rec * side (gridOf c) columns + a
+leftOf c rows rec a = rec * side (gridOf c) columns
 
 abbrev pub topOf : Component → Pass → ℕ → ℕ → ℕ
-topOf c columns k a = k * chromaUnit (c .ssy) (c .sb4 .0)
-topOf c rows k a = k * chromaUnit (c .ssy) (c .sb4 .0) + a
+topOf c columns k a = k * chromaUnit (c .«ss_ver») (c .sb4 .0)
+topOf c rows k a = k * chromaUnit (c .«ss_ver») (c .sb4 .0) + a
 
 abbrev pub unitAt : Component → Pass → ℕ → ℕ → ℕ → ℕ
-unitAt c columns k g a = leftOf c columns g a
-unitAt c rows k g a = topOf c rows k a
+unitAt c columns k rec a = leftOf c columns rec a
+unitAt c rows k rec a = topOf c rows k a
 
 abbrev pub acrossOf : Component → Pass → ℕ
 acrossOf c columns = side (gridOf c) columns
-acrossOf c rows = chromaUnit (c .ssy) (c .sb4 .0)
+acrossOf c rows = chromaUnit (c .«ss_ver») (c .sb4 .0)
 
 abbrev pub unitsAcross : Component → Pass → ℕ → ℕ → ℕ
-unitsAcross c columns k g = inRecord (side (gridOf c) columns) (unitsOf (gridOf c) columns) g
-unitsAcross c rows k g = rowUnits (c .ssy) (c .h4 .0) (c .sb4 .0) k
+unitsAcross c columns k rec = inRecord (side (gridOf c) columns) (unitsOf (gridOf c) columns) rec
+unitsAcross c rows k rec = rowUnits (c .«ss_ver») (c .h4 .0) (c .sb4 .0) k
 
 abbrev pub firstUnit : Pass → ℕ → ℕ → ℕ
-firstUnit columns k g = cond (eqb g 0) 1 0
-firstUnit rows k g = cond (eqb k 0) 1 0
+firstUnit columns k rec = cond (eqb rec 0) 1 0
+firstUnit rows k rec = cond (eqb k 0) 1 0
 
 abbrev pub unitIn : Component → Pass → ℕ → ℕ → ℕ
 unitIn c columns k a = a
-unitIn c rows k a = firstLine (c .ssy) (c .sb4 .0) k + a
+unitIn c rows k a = firstLine (c .«ss_ver») (c .sb4 .0) k + a
 
 unfoldable pub maskAt : Component → Pass → ℕ → ℕ → ℕ → ℕ
-maskAt c d k g a =
-    640 * (recordRow (c .sb4 .0) k * records (c .w4 .0) + g) + startOf (eqb (c .plane) 0) (passNo d) + stepOf (eqb (c .plane) 0) * unitIn c d k a
+maskAt c d k rec a =
+    640 * (recordRow (c .sb4 .0) k * records (c .w4 .0) + rec) + startOf (eqb (c .plane) 0) (passNo d) + stepOf (eqb (c .plane) 0) * unitIn c d k a
 
 abbrev pub firstHalf : Component → Pass → ℕ → ℕ
 firstHalf c columns k = k * c .sb4 .0 % 32 / 16
@@ -83,52 +83,52 @@ unfoldable pub classAt : List ℕ → Bool → ℕ → ℕ → ℕ → ℕ → �
 classAt ms luma at first n h class = cond (ltb class (cond luma 3 2)) (halvesAt ms (at + 2 * class) first n h) 0
 
 abbrev pub wordOf : Component → List ℕ → Pass → ℕ → ℕ → ℕ → ℕ → ℕ
-wordOf c ms d k g a class = classAt ms (eqb (c .plane) 0) (maskAt c d k g a) (firstHalf c d k) (halvesOf c d) (half (gridOf c) d) class
+wordOf c ms d k rec a class = classAt ms (eqb (c .plane) 0) (maskAt c d k rec a) (firstHalf c d k) (halvesOf c d) (half (gridOf c) d) class
 
 abbrev pub alongStep : Component → Pass → ℕ
-alongStep c columns = 4 * c .pitch
+alongStep c columns = 4 * c .«level_stride»
 alongStep c rows = 4
 
 abbrev pub backStep : Component → Pass → ℕ
 backStep c columns = 4
-backStep c rows = 4 * c .pitch
+backStep c rows = 4 * c .«level_stride»
 
-abbrev pub lineIn : Component → List ℕ → Pass → ℕ → ℕ → ℕ → Line
-lineIn c ms d k g a =
+abbrev pub lineIn : Component → List ℕ → Pass → ℕ → ℕ → ℕ → UnitLine
+lineIn c ms d k rec a =
     record {
-      q = 4 * (topOf c d k a * c .stride + leftOf c d g a);
-      sa = lineStep d (c .stride);
-      st = sampleStep d (c .stride);
-      m0 = wordOf c ms d k g a 0;
-      m1 = wordOf c ms d k g a 1;
-      m2 = wordOf c ms d k g a 2;
-      at = levelAt (c .pitch) (leftOf c d g a) (topOf c d k a) (kindOf c d);
+      q = 4 * (topOf c d k a * c .stride + leftOf c d rec a);
+      «line_step» = lineStep d (c .stride);
+      «sample_step» = sampleStep d (c .stride);
+      m0 = wordOf c ms d k rec a 0;
+      m1 = wordOf c ms d k rec a 1;
+      m2 = wordOf c ms d k rec a 2;
+      at = levelAt (c .«level_stride») (leftOf c d rec a) (topOf c d k a) (areaOf c d);
       along = alongStep c d;
       back = backStep c d;
     }
 
-abbrev pub unitsIn : Component → List ℕ → Line → Units
+abbrev pub unitsIn : Component → List ℕ → UnitLine → Units
 unitsIn c levels l =
-    units (l .q) (l .sa) (l .st) (l .m0) (l .m1) (l .m2) (not (eqb (c .plane) 0)) levels (l .at) (l .along) (l .back)
+    units (l .q) (l .«line_step») (l .«sample_step») (l .m0) (l .m1) (l .m2) (not (eqb (c .plane) 0)) levels (l .at) (l .along) (l .back)
 
--- the lines of a group
-unfoldable pub groupOf : Plane → Pass → ℕ → ℕ → List ℕ → List ℕ
-groupOf P d k g = upTo (lineOf P d k g) (across P d)
+-- the lines of a recordUnits
+unfoldable pub recordSweep : Plane → Pass → ℕ → ℕ → List ℕ → List ℕ
+recordSweep P d k rec = upTo (lineOf P d k rec) (across P d)
 
-pub record Counted (c : Component) (d : Pass) (k g a len : ℕ) : Type 0 where
+pub record Counted (c : Component) (d : Pass) (k rec a len : ℕ) : Type 0 where
   pub plane : c .plane ≤ 2
   pub proper : Proper (gridOf c)
   pub size : (c .sb4 .0 ≡ 16) ⊎ (c .sb4 .0 ≡ 32)
-  pub wide : c .w4 .0 ≤ 4096
+  pub width : c .w4 .0 ≤ 4096
   pub row : k * c .sb4 .0 < 4096
-  pub group : g < records (c .w4 .0)
+  pub recordUnits : rec < records (c .w4 .0)
   pub unit : a < acrossOf c d
-  pub masks : 640 * (recordRow (c .sb4 .0) k * records (c .w4 .0) + g) + 640 ≤ len
-  pub sample : 4 * (topOf c d k a * c .stride + leftOf c d g a) < 2 ^ 64
-  pub level : levelAt (c .pitch) (leftOf c d g a) (topOf c d k a) (kindOf c d) < 2 ^ 64
-  pub pitch : 4 * c .pitch < 2 ^ 64
+  pub masks : 640 * (recordRow (c .sb4 .0) k * records (c .w4 .0) + rec) + 640 ≤ len
+  pub sample : 4 * (topOf c d k a * c .stride + leftOf c d rec a) < 2 ^ 64
+  pub level : levelAt (c .«level_stride») (leftOf c d rec a) (topOf c d k a) (areaOf c d) < 2 ^ 64
+  pub «level_stride» : 4 * c .«level_stride» < 2 ^ 64
 
-pub record Inner (c : Component) (d : Pass) (k g a : ℕ) : Type 0 where
-  pub group : g < records (c .w4 .0)
-  pub unit : a < unitsAcross c d k g
-  pub first : 0 < unitAt c d k g a
+pub record Inner (c : Component) (d : Pass) (k rec a : ℕ) : Type 0 where
+  pub recordUnits : rec < records (c .w4 .0)
+  pub unit : a < unitsAcross c d k rec
+  pub first : 0 < unitAt c d k rec a

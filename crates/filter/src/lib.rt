@@ -6,22 +6,23 @@ use units::LumaUnit;
 ghost use mathlib.Core.Path.{_≡_};
 ghost use Prim.Native.Nat.{_^_, _≤_, _<_};
 ghost use lib.ListN.{length};
+ghost use Rattle.plane.specs.Line.{passOf};
 ghost use Rattle.units.specs.Frame.{records};
-ghost use Rattle.filter.specs.Filter.{tables, passOf, planeOf, lineOf, sweepOf};
+ghost use Rattle.filter.specs.Filter.{tables, planeOf, lineOf, sweepOf};
 ghost use Rattle.filter.specs.Ready.{Stored, Fit, Under};
-ghost use Rattle.filter.specs.Lines.{groupOf, Inner};
+ghost use Rattle.filter.specs.Lines.{recordSweep, Inner};
 ghost use Rattle.filter.specs.Promises.{Promises};
 
-// One plane of a frame: 0 luma, 1 U, 2 V, with its own subsampling, 0 for luma; its stride in samples, and the pitch of the level bytes in units.
+// One plane of a frame: 0 luma, 1 U, 2 V, with its own subsampling, 0 for luma; its stride in samples, and the level_stride of the level bytes in units.
 pub struct Component {
     pub plane: usize,
-    pub ssx: usize,
-    pub ssy: usize,
+    pub ss_hor: usize,
+    pub ss_ver: usize,
     pub w4: LumaUnit,
     pub h4: LumaUnit,
     pub sb4: LumaUnit,
     pub stride: usize,
-    pub pitch: usize,
+    pub level_stride: usize,
 }
 
 fn line_8(
@@ -29,23 +30,24 @@ fn line_8(
     c: Component,
     rowwise: bool,
     k: usize,
-    g: usize,
+    rec: usize,
     a: usize,
     levels: &[u8],
     masks: &[u16],
     e: &[u8; 64],
     i: &[u8; 64],
 )
-    requires { ⌜ Stored c (tables 8 (now levels) (now masks) (now e) (now i)) (length (now dst)) × Fit c (tables 8 (now levels) (now masks) (now e) (now i)) (passOf rowwise) k × Inner c (passOf rowwise) k g a ⌝ }
-    ensures { λ _. ⌜ now (dst .exit) ≡ lineOf (planeOf c (tables 8 (now (levels .entry)) (now (masks .entry)) (now (e .entry)) (now (i .entry)))) (passOf rowwise) k g a (now (dst .entry)) ⌝ }
+    requires { ⌜ Stored c (tables 8 (now levels) (now masks) (now e) (now i)) (length (now dst))
+        × Fit c (tables 8 (now levels) (now masks) (now e) (now i)) (passOf rowwise) k × Inner c (passOf rowwise) k rec a ⌝ }
+    ensures { λ _. ⌜ now (dst .exit) ≡ lineOf (planeOf c (tables 8 (now (levels .entry)) (now (masks .entry)) (now (e .entry)) (now (i .entry)))) (passOf rowwise) k rec a (now (dst .entry)) ⌝ }
 {
-    let l = lines::line_of(masks, c, rowwise, k, g, a);
+    let l = lines::line_of(masks, c, rowwise, k, rec, a);
     let uv = c.plane != 0;
     walk::walk_8(
         dst,
         l.q,
-        l.sa,
-        l.st,
+        l.line_step,
+        l.sample_step,
         l.m0,
         l.m1,
         l.m2,
@@ -59,24 +61,25 @@ fn line_8(
     );
 }
 
-fn group_8(
+fn record_8(
     dst: &mut [u8],
     c: Component,
     rowwise: bool,
     k: usize,
-    g: usize,
+    rec: usize,
     levels: &[u8],
     masks: &[u16],
     e: &[u8; 64],
     i: &[u8; 64],
 )
-    requires { ⌜ Stored c (tables 8 (now levels) (now masks) (now e) (now i)) (length (now dst)) × Fit c (tables 8 (now levels) (now masks) (now e) (now i)) (passOf rowwise) k × (g < records (c .w4 .0)) ⌝ }
-    ensures { λ _. ⌜ now (dst .exit) ≡ groupOf (planeOf c (tables 8 (now (levels .entry)) (now (masks .entry)) (now (e .entry)) (now (i .entry)))) (passOf rowwise) k g (now (dst .entry)) ⌝ }
+    requires { ⌜ Stored c (tables 8 (now levels) (now masks) (now e) (now i)) (length (now dst))
+        × Fit c (tables 8 (now levels) (now masks) (now e) (now i)) (passOf rowwise) k × (rec < records (c .w4 .0)) ⌝ }
+    ensures { λ _. ⌜ now (dst .exit) ≡ recordSweep (planeOf c (tables 8 (now (levels .entry)) (now (masks .entry)) (now (e .entry)) (now (i .entry)))) (passOf rowwise) k rec (now (dst .entry)) ⌝ }
 {
-    let n = lines::units_across(c, rowwise, k, g);
-    let first = lines::first_unit(rowwise, k, g);
+    let n = lines::units_across(c, rowwise, k, rec);
+    let first = lines::first_unit(rowwise, k, rec);
     for a in first..n {
-        line_8(dst, c, rowwise, k, g, a, levels, masks, e, i);
+        line_8(dst, c, rowwise, k, rec, a, levels, masks, e, i);
     }
 }
 
@@ -93,9 +96,9 @@ pub fn plane_8(
     requires { ⌜ Stored c (tables 8 (now levels) (now masks) (now e) (now i)) (length (now dst)) × Fit c (tables 8 (now levels) (now masks) (now e) (now i)) (passOf rowwise) k ⌝ }
     ensures { λ _. ⌜ now (dst .exit) ≡ sweepOf (planeOf c (tables 8 (now (levels .entry)) (now (masks .entry)) (now (e .entry)) (now (i .entry)))) (passOf rowwise) k (now (dst .entry)) ⌝ }
 {
-    let groups = units::frame::records_along(c.w4);
-    for g in 0..groups {
-        group_8(dst, c, rowwise, k, g, levels, masks, e, i);
+    let records = units::frame::records_along(c.w4);
+    for rec in 0..records {
+        record_8(dst, c, rowwise, k, rec, levels, masks, e, i);
     }
 }
 
@@ -104,7 +107,7 @@ fn line_16(
     c: Component,
     rowwise: bool,
     k: usize,
-    g: usize,
+    rec: usize,
     a: usize,
     levels: &[u8],
     masks: &[u16],
@@ -112,16 +115,19 @@ fn line_16(
     i: &[u8; 64],
     depth: u32,
 )
-    requires { ⌜ Stored c (tables depth (now levels) (now masks) (now e) (now i)) (length (now dst)) × Fit c (tables depth (now levels) (now masks) (now e) (now i)) (passOf rowwise) k × Inner c (passOf rowwise) k g a × (8 ≤ depth) × (depth ≤ 12) × Under (2 ^ depth) c (passOf rowwise) k (now dst) ⌝ }
-    ensures { λ _. ⌜ (now (dst .exit) ≡ lineOf (planeOf c (tables depth (now (levels .entry)) (now (masks .entry)) (now (e .entry)) (now (i .entry)))) (passOf rowwise) k g a (now (dst .entry))) × Under (2 ^ depth) c (passOf rowwise) k (now (dst .exit)) ⌝ }
+    requires { ⌜ Stored c (tables depth (now levels) (now masks) (now e) (now i)) (length (now dst))
+        × Fit c (tables depth (now levels) (now masks) (now e) (now i)) (passOf rowwise) k × Inner c (passOf rowwise) k rec a × (8 ≤ depth) × (depth ≤ 12)
+        × Under (2 ^ depth) c (passOf rowwise) k (now dst) ⌝ }
+    ensures { λ _. ⌜ (now (dst .exit) ≡ lineOf (planeOf c (tables depth (now (levels .entry)) (now (masks .entry)) (now (e .entry)) (now (i .entry))))
+        (passOf rowwise) k rec a (now (dst .entry))) × Under (2 ^ depth) c (passOf rowwise) k (now (dst .exit)) ⌝ }
 {
-    let l = lines::line_of(masks, c, rowwise, k, g, a);
+    let l = lines::line_of(masks, c, rowwise, k, rec, a);
     let uv = c.plane != 0;
     walk::walk_16(
         dst,
         l.q,
-        l.sa,
-        l.st,
+        l.line_step,
+        l.sample_step,
         l.m0,
         l.m1,
         l.m2,
@@ -136,25 +142,28 @@ fn line_16(
     );
 }
 
-fn group_16(
+fn record_16(
     dst: &mut [u16],
     c: Component,
     rowwise: bool,
     k: usize,
-    g: usize,
+    rec: usize,
     levels: &[u8],
     masks: &[u16],
     e: &[u8; 64],
     i: &[u8; 64],
     depth: u32,
 )
-    requires { ⌜ Stored c (tables depth (now levels) (now masks) (now e) (now i)) (length (now dst)) × Fit c (tables depth (now levels) (now masks) (now e) (now i)) (passOf rowwise) k × (g < records (c .w4 .0)) × (8 ≤ depth) × (depth ≤ 12) × Under (2 ^ depth) c (passOf rowwise) k (now dst) ⌝ }
-    ensures { λ _. ⌜ (now (dst .exit) ≡ groupOf (planeOf c (tables depth (now (levels .entry)) (now (masks .entry)) (now (e .entry)) (now (i .entry)))) (passOf rowwise) k g (now (dst .entry))) × Under (2 ^ depth) c (passOf rowwise) k (now (dst .exit)) ⌝ }
+    requires { ⌜ Stored c (tables depth (now levels) (now masks) (now e) (now i)) (length (now dst))
+        × Fit c (tables depth (now levels) (now masks) (now e) (now i)) (passOf rowwise) k × (rec < records (c .w4 .0)) × (8 ≤ depth) × (depth ≤ 12)
+        × Under (2 ^ depth) c (passOf rowwise) k (now dst) ⌝ }
+    ensures { λ _. ⌜ (now (dst .exit) ≡ recordSweep (planeOf c (tables depth (now (levels .entry)) (now (masks .entry)) (now (e .entry)) (now (i .entry))))
+        (passOf rowwise) k rec (now (dst .entry))) × Under (2 ^ depth) c (passOf rowwise) k (now (dst .exit)) ⌝ }
 {
-    let n = lines::units_across(c, rowwise, k, g);
-    let first = lines::first_unit(rowwise, k, g);
+    let n = lines::units_across(c, rowwise, k, rec);
+    let first = lines::first_unit(rowwise, k, rec);
     for a in first..n {
-        line_16(dst, c, rowwise, k, g, a, levels, masks, e, i, depth);
+        line_16(dst, c, rowwise, k, rec, a, levels, masks, e, i, depth);
     }
 }
 
@@ -169,12 +178,13 @@ pub fn plane_16(
     i: &[u8; 64],
     depth: u32,
 )
-    requires { ⌜ Stored c (tables depth (now levels) (now masks) (now e) (now i)) (length (now dst)) × Fit c (tables depth (now levels) (now masks) (now e) (now i)) (passOf rowwise) k × (8 ≤ depth) × (depth ≤ 12) × Under (2 ^ depth) c (passOf rowwise) k (now dst) ⌝ }
+    requires { ⌜ Stored c (tables depth (now levels) (now masks) (now e) (now i)) (length (now dst))
+        × Fit c (tables depth (now levels) (now masks) (now e) (now i)) (passOf rowwise) k × (8 ≤ depth) × (depth ≤ 12) × Under (2 ^ depth) c (passOf rowwise) k (now dst) ⌝ }
     ensures { λ _. ⌜ now (dst .exit) ≡ sweepOf (planeOf c (tables depth (now (levels .entry)) (now (masks .entry)) (now (e .entry)) (now (i .entry)))) (passOf rowwise) k (now (dst .entry)) ⌝ }
 {
-    let groups = units::frame::records_along(c.w4);
-    for g in 0..groups {
-        group_16(dst, c, rowwise, k, g, levels, masks, e, i, depth);
+    let records = units::frame::records_along(c.w4);
+    for rec in 0..records {
+        record_16(dst, c, rowwise, k, rec, levels, masks, e, i, depth);
     }
 }
 

@@ -9,20 +9,19 @@ ghost use Prim.Native.Nat.{suc, _+_, _*_, _/_, _^_, _<_, _≤_};
 ghost use lib.Bits.{bitOr};
 ghost use lib.Dec.{eqb};
 ghost use lib.ListN.{length};
-ghost use Rattle.plane.specs.Line.{columns, rows};
+ghost use Rattle.plane.specs.Line.{columns, rows, passOf};
 ghost use Rattle.units.specs.Frame.{records};
 ghost use Rattle.units.specs.Memory.{levelAt, halfUnits};
 ghost use Rattle.units.specs.Units.{chromaUnit};
 ghost use Rattle.gap.specs.Lines.{recordRow};
 ghost use Rattle.gap.specs.Track.{stepOf, startOf};
-ghost use Rattle.filter.specs.Filter.{passOf};
 ghost use Rattle.filter.specs.Lines.{halvesAt, classAt, firstUnit, unitsAcross, lineIn, Counted};
 
 // What `walk` takes.
-pub struct Line {
+pub struct UnitLine {
     pub q: usize,
-    pub sa: usize,
-    pub st: usize,
+    pub line_step: usize,
+    pub sample_step: usize,
     pub m0: u32,
     pub m1: u32,
     pub m2: u32,
@@ -31,18 +30,18 @@ pub struct Line {
     pub back: usize,
 }
 
-fn group_left(ssx: usize, g: usize) -> usize
-    requires { ⌜ (ssx ≤ 1) × (g ≤ 128) ⌝ }
-    ensures { λ r. ⌜ r ≡ g * (32 / 2 ^ ssx) ⌝ }
+fn record_left(ss_hor: usize, rec: usize) -> usize
+    requires { ⌜ («ss_hor» ≤ 1) × (rec ≤ 128) ⌝ }
+    ensures { λ r. ⌜ r ≡ rec * (32 / 2 ^ «ss_hor») ⌝ }
 {
-    g * (32 >> ssx)
+    rec * (32 >> ss_hor)
 }
 
-fn row_top(ssy: usize, sb4: LumaUnit, k: usize) -> usize
-    requires { ⌜ (ssy ≤ 1) × (k * sb4 .0 < 4096) ⌝ }
-    ensures { λ r. ⌜ r ≡ k * chromaUnit ssy (sb4 .0) ⌝ }
+fn row_top(ss_ver: usize, sb4: LumaUnit, k: usize) -> usize
+    requires { ⌜ («ss_ver» ≤ 1) × (k * sb4 .0 < 4096) ⌝ }
+    ensures { λ r. ⌜ r ≡ k * chromaUnit «ss_ver» (sb4 .0) ⌝ }
 {
-    let sb = units::chroma_unit(sb4, ssy);
+    let sb = units::chroma_unit(sb4, ss_ver);
     k * sb.0
 }
 
@@ -73,13 +72,13 @@ fn sample_at(c: Component, x: usize, y: usize) -> usize
 }
 
 fn level_of(c: Component, pass: usize, x: usize, y: usize) -> usize
-    requires { ⌜ (pass < 2) × (c .plane ≤ 2) × (levelAt (c .pitch) x y (cond (eqb (c .plane) 0) pass (suc (c .plane))) < 2 ^ 64) ⌝ }
-    ensures { λ r. ⌜ r ≡ levelAt (c .pitch) x y (cond (eqb (c .plane) 0) pass (suc (c .plane))) ⌝ }
+    requires { ⌜ (pass < 2) × (c .plane ≤ 2) × (levelAt (c .«level_stride») x y (cond (eqb (c .plane) 0) pass (suc (c .plane))) < 2 ^ 64) ⌝ }
+    ensures { λ r. ⌜ r ≡ levelAt (c .«level_stride») x y (cond (eqb (c .plane) 0) pass (suc (c .plane))) ⌝ }
 {
     if c.plane == 0 {
-        return units::memory::luma_level_at(c.pitch, LumaUnit(x), LumaUnit(y), pass);
+        return units::memory::luma_level_at(c.level_stride, LumaUnit(x), LumaUnit(y), pass);
     }
-    units::memory::chroma_level_at(c.pitch, ChromaUnit(x), ChromaUnit(y), c.plane + 1)
+    units::memory::chroma_level_at(c.level_stride, ChromaUnit(x), ChromaUnit(y), c.plane + 1)
 }
 
 fn step_of(luma: bool) -> usize
@@ -88,22 +87,22 @@ fn step_of(luma: bool) -> usize
     if luma { 6 } else { 4 }
 }
 
-// Where the masks of a unit of record g start.
+// Where the masks of a unit of record rec start.
 fn mask_at(
     luma: bool,
     pass: usize,
     w4: LumaUnit,
     sb4: LumaUnit,
     k: usize,
-    g: usize,
+    rec: usize,
     unit: usize,
 ) -> usize
-    requires { ⌜ (pass < 2) × (w4 .0 ≤ 4096) × (k * sb4 .0 < 4096) × (g < records (w4 .0)) × (unit ≤ 32) ⌝ }
-    ensures { λ r. ⌜ r ≡ 640 * (recordRow (sb4 .0) k * records (w4 .0) + g) + startOf luma pass + stepOf luma * unit ⌝ }
+    requires { ⌜ (pass < 2) × (w4 .0 ≤ 4096) × (k * sb4 .0 < 4096) × (rec < records (w4 .0)) × (unit ≤ 32) ⌝ }
+    ensures { λ r. ⌜ r ≡ 640 * (recordRow (sb4 .0) k * records (w4 .0) + rec) + startOf luma pass + stepOf luma * unit ⌝ }
 {
-    let groups = units::frame::records_along(w4);
+    let records = units::frame::records_along(w4);
     let row = gap::lines::record_row(sb4, k);
-    let start = gap::track::record_start(luma, pass, row * groups + g);
+    let start = gap::track::record_start(luma, pass, row * records + rec);
     start + step_of(luma) * unit
 }
 
@@ -114,13 +113,13 @@ fn half_units(ss: usize) -> u32
     16u32 >> ss
 }
 
-fn wide(m: u16) -> u32
+fn as_u32(m: u16) -> u32
     ensures { λ r. ⌜ r ≡ m ⌝ }
 {
     m as u32
 }
 
-fn joined(lo: u16, hi: u16, h: u32) -> u32
+fn both_halves(lo: u16, hi: u16, h: u32) -> u32
     requires { ⌜ h ≤ 16 ⌝ }
     ensures { λ r. ⌜ r ≡ bitOr lo (hi * 2 ^ h) ⌝ }
 {
@@ -132,9 +131,9 @@ fn halves_at(masks: &[u16], at: usize, first: usize, n: usize, h: u32) -> u32
     ensures { λ r. ⌜ r ≡ halvesAt (now (masks .entry)) at first n h ⌝ }
 {
     if n == 2 {
-        return joined(masks[at], masks[at + 1], h);
+        return both_halves(masks[at], masks[at + 1], h);
     }
-    wide(masks[at + first])
+    as_u32(masks[at + first])
 }
 
 fn class_at(
@@ -158,63 +157,70 @@ fn class_at(
     0
 }
 
-fn column_line(masks: &[u16], c: Component, k: usize, g: usize, a: usize) -> Line
-    requires { ⌜ Counted c columns k g a (length (now masks)) ⌝ }
-    ensures { λ r. ⌜ r ≡ lineIn c (now (masks .entry)) columns k g a ⌝ }
+fn column_line(masks: &[u16], c: Component, k: usize, rec: usize, a: usize) -> UnitLine
+    requires { ⌜ Counted c columns k rec a (length (now masks)) ⌝ }
+    ensures { λ r. ⌜ r ≡ lineIn c (now (masks .entry)) columns k rec a ⌝ }
 {
     let luma = c.plane == 0;
-    let x = group_left(c.ssx, g) + a;
-    let y = row_top(c.ssy, c.sb4, k);
-    let m = mask_at(luma, 0, c.w4, c.sb4, k, g, a);
+    let x = record_left(c.ss_hor, rec) + a;
+    let y = row_top(c.ss_ver, c.sb4, k);
+    let m = mask_at(luma, 0, c.w4, c.sb4, k, rec, a);
     let first = k * c.sb4.0 % 32 / 16;
     let n = c.sb4.0 / 16;
-    let h = half_units(c.ssy);
+    let h = half_units(c.ss_ver);
     let stride = c.stride;
-    Line {
+    UnitLine {
         q: sample_at(c, x, y),
-        sa: stride,
-        st: 1,
+        line_step: stride,
+        sample_step: 1,
         m0: class_at(masks, luma, m, first, n, h, 0),
         m1: class_at(masks, luma, m, first, n, h, 1),
         m2: class_at(masks, luma, m, first, n, h, 2),
         at: level_of(c, 0, x, y),
-        along: 4 * c.pitch,
+        along: 4 * c.level_stride,
         back: 4,
     }
 }
 
-fn row_line(masks: &[u16], c: Component, k: usize, g: usize, a: usize) -> Line
-    requires { ⌜ Counted c rows k g a (length (now masks)) ⌝ }
-    ensures { λ r. ⌜ r ≡ lineIn c (now (masks .entry)) rows k g a ⌝ }
+fn row_line(masks: &[u16], c: Component, k: usize, rec: usize, a: usize) -> UnitLine
+    requires { ⌜ Counted c rows k rec a (length (now masks)) ⌝ }
+    ensures { λ r. ⌜ r ≡ lineIn c (now (masks .entry)) rows k rec a ⌝ }
 {
     let luma = c.plane == 0;
-    let x = group_left(c.ssx, g);
-    let y = row_top(c.ssy, c.sb4, k) + a;
-    let unit = gap::lines::first_line(c.ssy, c.sb4, k) + a;
-    let m = mask_at(luma, 1, c.w4, c.sb4, k, g, unit);
-    let h = half_units(c.ssx);
+    let x = record_left(c.ss_hor, rec);
+    let y = row_top(c.ss_ver, c.sb4, k) + a;
+    let unit = gap::lines::first_line(c.ss_ver, c.sb4, k) + a;
+    let m = mask_at(luma, 1, c.w4, c.sb4, k, rec, unit);
+    let h = half_units(c.ss_hor);
     let stride = c.stride;
-    Line {
+    UnitLine {
         q: sample_at(c, x, y),
-        sa: 1,
-        st: stride,
+        line_step: 1,
+        sample_step: stride,
         m0: class_at(masks, luma, m, 0, 2, h, 0),
         m1: class_at(masks, luma, m, 0, 2, h, 1),
         m2: class_at(masks, luma, m, 0, 2, h, 2),
         at: level_of(c, 1, x, y),
         along: 4,
-        back: 4 * c.pitch,
+        back: 4 * c.level_stride,
     }
 }
 
-pub fn line_of(masks: &[u16], c: Component, rowwise: bool, k: usize, g: usize, a: usize) -> Line
-    requires { ⌜ Counted c (passOf rowwise) k g a (length (now masks)) ⌝ }
-    ensures { λ r. ⌜ r ≡ lineIn c (now (masks .entry)) (passOf rowwise) k g a ⌝ }
+pub fn line_of(
+    masks: &[u16],
+    c: Component,
+    rowwise: bool,
+    k: usize,
+    rec: usize,
+    a: usize,
+) -> UnitLine
+    requires { ⌜ Counted c (passOf rowwise) k rec a (length (now masks)) ⌝ }
+    ensures { λ r. ⌜ r ≡ lineIn c (now (masks .entry)) (passOf rowwise) k rec a ⌝ }
 {
     if rowwise {
-        return row_line(masks, c, k, g, a);
+        return row_line(masks, c, k, rec, a);
     }
-    column_line(masks, c, k, g, a)
+    column_line(masks, c, k, rec, a)
 }
 
 // 1 at the frame's start, where no line is walked.
@@ -224,22 +230,22 @@ fn after_start(n: usize) -> usize
     if n == 0 { 1 } else { 0 }
 }
 
-pub fn first_unit(rowwise: bool, k: usize, g: usize) -> usize
-    ensures { λ r. ⌜ r ≡ firstUnit (passOf rowwise) k g ⌝ }
+pub fn first_unit(rowwise: bool, k: usize, rec: usize) -> usize
+    ensures { λ r. ⌜ r ≡ firstUnit (passOf rowwise) k rec ⌝ }
 {
     if rowwise {
         return after_start(k);
     }
-    after_start(g)
+    after_start(rec)
 }
 
-pub fn units_across(c: Component, rowwise: bool, k: usize, g: usize) -> usize
-    requires { ⌜ (c .ssx ≤ 1) × (c .ssy ≤ 1) × (c .w4 .0 ≤ 4096) × (c .h4 .0 ≤ 4096) × (k * c .sb4 .0 < c .h4 .0) × (g ≤ 128) ⌝ }
-    ensures { λ r. ⌜ r ≡ unitsAcross c (passOf rowwise) k g ⌝ }
+pub fn units_across(c: Component, rowwise: bool, k: usize, rec: usize) -> usize
+    requires { ⌜ (c .«ss_hor» ≤ 1) × (c .«ss_ver» ≤ 1) × (c .w4 .0 ≤ 4096) × (c .h4 .0 ≤ 4096) × (k * c .sb4 .0 < c .h4 .0) × (rec ≤ 128) ⌝ }
+    ensures { λ r. ⌜ r ≡ unitsAcross c (passOf rowwise) k rec ⌝ }
 {
     if rowwise {
-        return gap::lines::row_units(c.ssy, c.h4, c.sb4, k);
+        return gap::lines::row_units(c.ss_ver, c.h4, c.sb4, k);
     }
-    let wide = units::chroma_units(c.w4, c.ssx);
-    gap::lines::in_record(32 >> c.ssx, wide.0, g)
+    let as_u32 = units::chroma_units(c.w4, c.ss_hor);
+    gap::lines::in_record(32 >> c.ss_hor, as_u32.0, rec)
 }

@@ -1,5 +1,5 @@
 pub mod Wholes
-pub mod Kepts
+pub mod GapKept
 pub mod Sweeps
 pub mod Regions
 pub mod Stays

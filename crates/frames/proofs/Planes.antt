@@ -28,7 +28,7 @@ use Rattle.checks.proofs.Accepted.{filtered-u, filtered-v}
 use Rattle.apply.specs.Apply.{shown, planeAt}
 use Rattle.frames.specs.Whole.{RowsKeep, BoundariesKeep}
 use Rattle.frames.specs.Calls.{Frame, callAt, lentOf, planes, Accepted, BoundariesKept}
-use Rattle.frames.proofs.Kepts.{Size, kept}
+use Rattle.frames.proofs.GapKept.{Size, kept}
 use Rattle.frames.proofs.Regions.{fair}
 use Rattle.frames.proofs.Sweeps.{sweep-stays, shown-none}
 use Rattle.frames.proofs.Stays.{Done, done}
@@ -81,7 +81,7 @@ module _ (P : Plane) (no-edge : (d : Pass) (p : Piece) → class P d p ≡ none)
 
   raster-stays : (d : Pass) (s : List ℕ) → rasterOf P d s ≡ s
   unfolding rasterOf
-  raster-stays d = upTo-idle _ 0 (P .sbs * P .sb) (λ y _. upTo-idle _ 0 (P .groups * P .group) (λ x _. stays d _) (omega arith)) (omega arith)
+  raster-stays d = upTo-idle _ 0 (P .sbs * P .sb) (λ y _. upTo-idle _ 0 (P .records * P .recordUnits) (λ x _. stays d _) (omega arith)) (omega arith)
 
   cols-stay : (k : ℕ) (s : List ℕ) → colsOf P k s ≡ s
   cols-stay k s = sym (filter.promises .columns-are P k s) ∙ sweep-stays P no-edge columns k s

@@ -25,7 +25,7 @@ use Rattle.filter.specs.Filter.{Tables, levelOf, planeOf, sweepOf}
 use Rattle.filter.specs.Ready.{Stored, Fit}
 use Rattle.frames.specs.Within.{Within, Agree}
 use Rattle.frames.proofs.Sweeps.{sweep-both}
-use Rattle.frames.proofs.Kepts.{Size, in-frame, by-size, in-groups, class-gives}
+use Rattle.frames.proofs.GapKept.{Size, in-frame, by-size, in-records, class-gives}
 
 pub fair : (b : Bool) → Fair (cond b luma chroma)
 fair true = fair-luma
@@ -44,22 +44,22 @@ module _ (c : Component) (t : Tables) (len : ℕ) (s : Stored c t len) (k : ℕ)
   abbrev W : ℕ → ℕ
   W = P .widths .writes
 
-  wide : Fair (P .widths)
-  wide = fair (eqb (c .plane) 0)
+  width : Fair (P .widths)
+  width = fair (eqb (c .plane) 0)
 
   -- how far an edge piece of the row reads
   abbrev Far : Pass → ℕ → Piece → Type 0
-  Far columns n p = (n ≤ 4 * p .0) × (4 * p .0 + n ≤ 4 * (P .groups * P .group))
+  Far columns n p = (n ≤ 4 * p .0) × (4 * p .0 + n ≤ 4 * (P .records * P .recordUnits))
   Far rows n p = (n ≤ 4 * p .0) × (4 * p .0 + n ≤ 4 * (suc k * P .sb))
 
   far-columns : Fit c t columns k → (p : Piece) (cls : ℕ) → InRow P columns k p → 0 < p .0 → P .edge columns p ≡ some cls → Far columns (R cls) p
   far-columns f p cls r h e =
       let i = in-frame c t columns p cls e in
-      let w = in-groups (p .0) (c .w4 .0) (c .ssx) (s .proper .ssx-le) (i .0) in
+      let w = in-records (p .0) (c .w4 .0) (c .«ss_hor») (s .proper .ss-hor-le) (i .0) in
       let to : p .1 < (k + 1) * P .sb = (let z : k + 1 ≡ suc k = omega arith in rw z (r .to)) in
-      let g : Close (λ u. P .edge columns (u, p .1)) Nowhere (P .groups * P .group) =
+      let g : Close (λ u. P .edge columns (u, p .1)) Nowhere (P .records * P .recordUnits) =
       gap-close _ _ _ (λ u. no (λ x. x)) (f .gap (p .1) (r .from, to, i .1)) in
-      (after-start R (wide .reach) _ _ _ g (p .0) cls e h, before-end R (wide .reach) _ _ _ g (p .0) cls e w)
+      (after-start R (width .reach) _ _ _ g (p .0) cls e h, before-end R (width .reach) _ _ _ g (p .0) cls e w)
 
   far-rows : Fit c t rows k → (p : Piece) (cls : ℕ) → InRow P rows k p → 0 < p .0 → P .edge rows p ≡ some cls → Far rows (R cls) p
   unfolding part
@@ -71,10 +71,10 @@ module _ (c : Component) (t : Tables) (len : ℕ) (s : Stored c t len) (k : ℕ)
       let q : part (k * P .sb) (P .sb) (λ y. P .edge rows (y, p .1)) u ≡ some cls = part-edge u l z in
       let g : Close (part (k * P .sb) (P .sb) (λ y. P .edge rows (y, p .1))) Nowhere (P .sb) =
       gap-close _ _ _ (λ u. no (λ x. x)) (f .gap (p .1) (i .1)) in
-      let b = before-end R (wide .reach) _ _ _ g u cls q l in (
+      let b = before-end R (width .reach) _ _ _ g u cls q l in (
         by-cases (ℕ-discrete u 0)
-            (λ n. omega (arith, wide .reach .any cls, tall (c .sb4 .0) (c .ssy) (s .size) (s .proper .ssy-le), top (omega arith)))
-            (λ n. omega (arith, after-start R (wide .reach) _ _ _ g u cls q (omega arith))),
+            (λ n. omega (arith, width .reach .any cls, tall (c .sb4 .0) (c .«ss_ver») (s .size) (s .proper .ss-ver-le), top (omega arith)))
+            (λ n. omega (arith, after-start R (width .reach) _ _ _ g u cls q (omega arith))),
         omega (arith, suc-mul k (P .sb)),
       )
     where
@@ -97,7 +97,7 @@ module _ (c : Component) (t : Tables) (len : ℕ) (s : Stored c t len) (k : ℕ)
   placed d f p r cls e =
       subst⁻¹ (λ o. Placed d (P .stride) (ruleOf P d p o) p) e
       (record {
-        fewer = wide .fewer cls;
+        fewer = width .fewer cls;
         start = start d (R cls) p (far d f p cls r e);
         room = room d p cls e (far d f p cls r e);
         gives = class-gives t (eqb (c .plane) 0) cls (levelOf c t d p);
@@ -111,7 +111,7 @@ module _ (c : Component) (t : Tables) (len : ℕ) (s : Stored c t len) (k : ℕ)
       room columns p cls e x = omega (arith, s .stored-wide)
       room rows p cls e x =
           let i = in-frame c t rows p cls (inner-some (p .0) (P .edge rows p) cls e .1) in
-          omega (arith, s .stored-wide, in-groups (p .1) (c .w4 .0) (c .ssx) (s .proper .ssx-le) (i .1))
+          omega (arith, s .stored-wide, in-records (p .1) (c .w4 .0) (c .«ss_hor») (s .proper .ss-hor-le) (i .1))
 
   -- a piece of the row is local
   local-row : (d : Pass) → Fit c t d k → (p : Piece) → InRow P d k p → Local (line.lineOf d (P .stride)) (Writes P d p) (Reads P d p) (act P d p)
@@ -127,7 +127,7 @@ module _ (c : Component) (t : Tables) (len : ℕ) (s : Stored c t len) (k : ℕ)
       go rows p r e x a b w =
           let j = in-frame c t rows p cls (inner-some (p .0) (P .edge rows p) cls e .1) in
           record {
-            right = omega (arith, w .below, in-groups (p .1) (c .w4 .0) (c .ssx) (s .proper .ssx-le) (j .1));
+            right = omega (arith, w .below, in-records (p .1) (c .w4 .0) (c .«ss_hor») (s .proper .ss-hor-le) (j .1));
             from = omega (arith, w .left, r .from);
             to = omega (arith, w .right);
           }
@@ -143,7 +143,7 @@ module _ (c : Component) (t : Tables) (len : ℕ) (s : Stored c t len) (k : ℕ)
     writes-within h i b =
         let x = reads-piece P d p i (local-row d f p r .within i b) in
         let e : ruleAt P d p .writes ≡ W (x .0) = ap (λ o. ruleOf P d p o .writes) (x .1) in
-        box-within d f p r (x .0) (x .1) (W (x .0)) m i (wide .fewer (x .0)) (h (x .0)) (subst (λ n. Box d (P .stride) n p i) e b)
+        box-within d f p r (x .0) (x .1) (W (x .0)) m i (width .fewer (x .0)) (h (x .0)) (subst (λ n. Box d (P .stride) n p i) e b)
 
     -- so it changes no sample farther than it writes
     act-outside : ((cls : ℕ) → W cls ≤ m) → (l : List ℕ) (i : ℕ) → ¬ Within P m d k i → getD (act P d p l) i 0 ≡ getD l i 0

@@ -13,24 +13,23 @@ use lib.ListN.{length, getD}
 use borrow.Author.Tests.{le-ltb, eq-eqb, ne-eqb}
 use Rattle.loops.specs.Any.{anyBelow}
 use Rattle.bits.specs.Mark.{Words}
-use Rattle.plane.specs.Line.{Pass, columns, rows}
+use Rattle.plane.specs.Line.{Pass, columns, rows, passNo}
 use Rattle.plane.specs.Plane.{Plane}
 use Rattle.plane.specs.Three.{Three, colsCall, rowsCall}
 use Rattle.units.specs.Units.{chromaUnit}
 use Rattle.units.specs.Frame.{stored}
 use Rattle.units.specs.Memory.{planeOk}
-use Rattle.edges.specs.Edges.{passNo}
 use Rattle.scans.specs.Scan.{someFrom, samplesHigh}
 use Rattle.filter.specs.declared.Component.{Component}
 use Rattle.filter.specs.Filter.{Tables, planeOf, sweepOf}
 use Rattle.filter.specs.Ready.{Stored, Fit, Under}
 use Rattle.filter.proofs.Sweeps as filter
 use Rattle.checks.specs.declared.Call.{Call}
-use Rattle.checks.specs.Call.{samples, passOf, sb4, ssx, ssy, strideOf, chromaOn, Filtered, luma}
+use Rattle.checks.specs.Call.{samples, callPass, sb4, ss-hor, ss-ver, strideOf, chromaOn, Filtered, luma}
 use Rattle.checks.specs.Tests.{levelBad, depthBad, shapeBad, lengthBad, inside, levelsBad, planeBad, marked, number}
 use Rattle.checks.proofs.Accepted.{filtered-u, filtered-v}
 use Rattle.apply.specs.Apply.{componentOf, tablesOf, passCall}
-use Rattle.apply.proofs.Readies.{ready, deep, under}
+use Rattle.apply.proofs.ReadyPlanes.{ready, deep, under}
 use Rattle.frames.specs.Within.{Within}
 use Rattle.frames.specs.Calls.{Frame, callAt, lentOf, answer, planes, after}
 use Rattle.frames.proofs.Regions.{fair, sweep-outside}
@@ -40,19 +39,19 @@ use Rattle.frames.proofs.Sweeps.{shown-case}
 
 record Alike (m : ℕ) (s t : List ℕ) : Type 0 where
   long : length s ≡ length t
-  high : (i : ℕ) → ltb (m - 1) (getD s i 0) ≡ ltb (m - 1) (getD t i 0)
+  height : (i : ℕ) → ltb (m - 1) (getD s i 0) ≡ ltb (m - 1) (getD t i 0)
 
 same : (m : ℕ) (s : List ℕ) → Alike m s s
-same m s = record { long = refl; high = λ i. refl }
+same m s = record { long = refl; height = λ i. refl }
 
 plane-alike : (c : Call) (n : ℕ) (s t : List ℕ) → Alike (2 ^ c .depth) s t → planeBad c n s ≡ planeBad c n t
 unfolding planeBad samplesHigh
 plane-alike c n s t a =
     λ q.
-    not (planeOk (a .long q) (strideOf c n) (stored (c .width .0) (ssx c n)) (stored (c .height .0) (ssy c n)))
+    not (planeOk (a .long q) (strideOf c n) (stored (c .width .0) (ss-hor c n)) (stored (c .height .0) (ss-ver c n)))
     || (inside c
-    && someFrom (4 * (c .row * chromaUnit (ssy c n) (sb4 c)) - 8 * passNo (passOf c)) (4 * ((c .row + 1) * chromaUnit (ssy c n) (sb4 c)))
-    (λ y. anyBelow (stored (c .width .0) (ssx c n)) (λ x. a .high (y * strideOf c n + x) q)))
+    && someFrom (4 * (c .row * chromaUnit (ss-ver c n) (sb4 c)) - 8 * passNo (callPass c)) (4 * ((c .row + 1) * chromaUnit (ss-ver c n) (sb4 c)))
+    (λ y. anyBelow (stored (c .width .0) (ss-hor c n)) (λ x. a .height (y * strideOf c n + x) q)))
 
 record Alike3 (m : ℕ) (s t : Three (List ℕ)) : Type 0 where
   luma : Alike m (s .luma) (t .luma)
@@ -77,7 +76,7 @@ answer-alike f d j s t a =
 
 dec-within : (P : Plane) (n : ℕ) (d : Pass) (k i : ℕ) → Dec (Within P n d k i)
 dec-within P n d k i =
-    by-cases (decLt (i % P .stride) (4 * (P .groups * P .group)))
+    by-cases (decLt (i % P .stride) (4 * (P .records * P .recordUnits)))
     (λ a. by-cases (decLe (4 * (k * P .sb)) (i / P .stride + n * passNo d))
     (λ b. by-cases (decLt (i / P .stride) (4 * (suc k * P .sb)))
     (λ e. yes (record { right = a; from = b; to = e })) (λ m. no (λ x. m (x .to))))
@@ -112,7 +111,7 @@ module _ (c : Component) (t : Tables) (d : Pass) (k : ℕ) (s : List ℕ) (o : D
   sweep-alike =
       record {
         long = filter.promises .keeps (planeOf c t) d k s;
-        high = λ i. by-cases (dec-within (planeOf c t) 8 d k i) (looked i) (λ n. ap (λ (x : ℕ). ltb (2 ^ t .depth - 1) x) (not-looked i n));
+        height = λ i. by-cases (dec-within (planeOf c t) 8 d k i) (looked i) (λ n. ap (λ (x : ℕ). ltb (2 ^ t .depth - 1) x) (not-looked i n));
       }
 
 -- ---- a call

@@ -26,7 +26,7 @@ module _ (P : Plane) (k : ℕ) where
       → (s t : List ℕ) → R s t → R (sweepOf P d k s) (sweepOf P d k t)
   unfolding sweepOf lineOf
   sweep-both R d h =
-      upTo-both R _ (P .groups) (λ g _. upTo-both R _ (across P d) (λ a x. upTo-both R _ (along P d) (λ v y. h _ (in-row d g a v x y))))
+      upTo-both R _ (P .records) (λ g _. upTo-both R _ (across P d) (λ a x. upTo-both R _ (along P d) (λ v y. h _ (in-row d g a v x y))))
 
   -- a change that commutes with each piece commutes with the pass
   sweep-past : (d : Pass) (f : List ℕ → List ℕ) → ((p : Piece) → InRow P d k p → (s : List ℕ) → f (act P d p s) ≡ act P d p (f s))

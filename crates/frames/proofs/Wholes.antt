@@ -12,15 +12,15 @@ use Rattle.plane.specs.Gap.{Mark, an-edge, the-start, the-end, a-boundary, Neig
 use Rattle.gap.specs.Numbers.{part}
 use Rattle.gap.specs.Promises.{Nowhere}
 
-module _ (edge : ℕ → Option ℕ) (sb high : ℕ) (pos : 0 < sb) (whole : high % sb ≡ 0) where
+module _ (edge : ℕ → Option ℕ) (sb height : ℕ) (pos : 0 < sb) (whole : height % sb ≡ 0) where
   abbrev Bound : ℕ → Type 0
   Bound u = u % sb ≡ 0
 
   abbrev M : ℕ → Type 0
-  M = Mark edge Bound high
+  M = Mark edge Bound height
 
   abbrev N : ℕ → ℕ → Type 0
-  N = Neighbours edge Bound high
+  N = Neighbours edge Bound height
 
   -- the row of k
   abbrev Mₖ : ℕ → ℕ → Type 0
@@ -121,5 +121,5 @@ module _ (edge : ℕ → Option ℕ) (sb high : ℕ) (pos : 0 < sb) (whole : hig
         let s : b ≡ suc k * sb = omega (arith, suc-mul k sb) in
         rw s (upper (suc k) a c (rw (sym s) e) (rw (sym s) n)))
 
-    pub gap-whole : GapRule edge Bound high
+    pub gap-whole : GapRule edge Bound height
     gap-whole = record { left = left; right = right }

@@ -43,13 +43,13 @@ callAt f d k =
       layout = f .head .layout;
       superblock = f .head .superblock;
       depth = f .head .depth;
-      levelu = f .head .levelu;
-      levelv = f .head .levelv;
+      «level_u» = f .head .«level_u»;
+      «level_v» = f .head .«level_v»;
       row = k;
       rowwise = isRows d;
-      stride = f .head .stride;
-      uvstride = f .head .uvstride;
-      pitch = f .head .pitch;
+      «luma_stride» = f .head .«luma_stride»;
+      «chroma_stride» = f .head .«chroma_stride»;
+      «level_stride» = f .head .«level_stride»;
     }
 
 abbrev pub lentOf : Frame → Three (List ℕ) → Lent

@@ -5,12 +5,11 @@ use mathlib.Core.List.{List}
 use mathlib.Core.Path.{_≡_}
 use Prim.Native.Nat.{ℕ, suc, _+_, _*_, _/_, _%_, _≤_, _<_}
 use lib.ListN.{length, getD}
-use Rattle.plane.specs.Line.{Pass}
+use Rattle.plane.specs.Line.{Pass, passNo}
 use Rattle.plane.specs.Plane.{Plane}
-use Rattle.edges.specs.Edges.{passNo}
 
 pub record Within (P : Plane) (n : ℕ) (d : Pass) (k i : ℕ) : Type 0 where
-  pub right : i % P .stride < 4 * (P .groups * P .group)
+  pub right : i % P .stride < 4 * (P .records * P .recordUnits)
   pub from : 4 * (k * P .sb) ≤ i / P .stride + n * passNo d
   pub to : i / P .stride < 4 * (suc k * P .sb)
 

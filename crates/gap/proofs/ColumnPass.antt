@@ -28,7 +28,7 @@ use Rattle.gap.proofs.Masks.{word-in, class-bit}
 use Rattle.gap.proofs.Shapes.{RowLines, RowHalves, units-stored}
 
 module _ (G : Grid) (p : Proper G) (ms : List ℕ) (small : (j : ℕ) → getD ms j 0 < 65536) (sb4 k : ℕ)
-    (at : RowLines (G .ssy) (G .h4) sb4 k) (ah : RowHalves (G .h4) sb4 k) where
+    (at : RowLines (G .ss-ver) (G .h4) sb4 k) (ah : RowHalves (G .h4) sb4 k) where
   -- the record row, the row's first half in it, its halves and its lines, and those in the frame
   abbrev l : ℕ
   l = recordRow sb4 k
@@ -43,32 +43,32 @@ module _ (G : Grid) (p : Proper G) (ms : List ℕ) (small : (j : ℕ) → getD m
   sb = sbUnits G sb4
 
   abbrev m : ℕ
-  m = rowUnits (G .ssy) (G .h4) sb4 k
+  m = rowUnits (G .ss-ver) (G .h4) sb4 k
 
   abbrev words : ℕ → ℕ → ℕ
-  words = columnWords ms (G .isLuma) n (640 * (l * records (G .w4)) + startOf (G .isLuma) 0 + first) (side G columns)
+  words = columnWords ms (G .luma) n (640 * (l * records (G .w4)) + startOf (G .luma) 0 + first) (side G columns)
 
   reads : (u c q : ℕ) → u < storedUnits G → c < 3 → q < 32
       → hasBit (words u c) q ≡ (ltb c (classes G) && (ltb (q / 16) n && isSet ms (halfBit G columns u c (k * n + q / 16) (q % 16))))
   unfolding columnWords halfBit
   reads u c q lu lc lq =
-      class-bit ms small n (ah .some) (omega (arith, ah .two)) (G .isLuma)
-      (640 * (l * records (G .w4)) + startOf (G .isLuma) 0 + first + 640 * (u / side G columns)) (u % side G columns) c q lc lq
+      class-bit ms small n (ah .some) (omega (arith, ah .two)) (G .luma)
+      (640 * (l * records (G .w4)) + startOf (G .luma) 0 + first + 640 * (u / side G columns)) (u % side G columns) c q lc lq
       ∙ ap (λ (x : Bool). ltb c (classes G) && x)
       (by-cases (decLt (q / 16) n) (λ i. ap (λ (x : ℕ). ltb (q / 16) n && isSet ms x) (own i)) (λ i. rw (le-ltb (q / 16) n (omega arith)) refl))
     where
-      sum : (r g t o s c q : ℕ)
-          → 16 * (640 * r + o + s + 640 * g + t + 2 * c) + q ≡ 10240 * (r + g) + (16 * (o + t + 2 * c + (s + q / 16)) + q % 16)
-      sum r g t o s c q = omega arith
+      sum : (r rec t o s c q : ℕ)
+          → 16 * (640 * r + o + s + 640 * rec + t + 2 * c) + q ≡ 10240 * (r + rec) + (16 * (o + t + 2 * c + (s + q / 16)) + q % 16)
+      sum r rec t o s c q = omega arith
 
       own : q / 16 < n
-          → 16 * (640 * (l * records (G .w4)) + startOf (G .isLuma) 0 + first + 640 * (u / side G columns) + stepOf (G .isLuma) * (u % side G columns) + 2 * c) + q
+          → 16 * (640 * (l * records (G .w4)) + startOf (G .luma) 0 + first + 640 * (u / side G columns) + stepOf (G .luma) * (u % side G columns) + 2 * c) + q
           ≡ 10240 * ((k * n + q / 16) / 2 * records (G .w4) + u / side G columns)
           + (16 * wordIn G columns (u % side G columns) c ((k * n + q / 16) % 2) + q % 16)
       own i =
           let a : l ≡ (k * n + q / 16) / 2 = omega (arith, ah .halfNo, ah .two) in
           let b : first + q / 16 ≡ (k * n + q / 16) % 2 = omega (arith, ah .halfNo, ah .two) in
-          sum (l * records (G .w4)) (u / side G columns) (stepOf (G .isLuma) * (u % side G columns)) (startOf (G .isLuma) 0) first c q
+          sum (l * records (G .w4)) (u / side G columns) (stepOf (G .luma) * (u % side G columns)) (startOf (G .luma) 0) first c q
           ∙ ap (λ (x : ℕ). 10240 * (l * records (G .w4) + u / side G columns) + (16 * x + q % 16))
           (sym (word-in G columns (u % side G columns) c (first + q / 16)))
           ∙ (λ i. 10240 * (a i * records (G .w4) + u / side G columns) + (16 * wordIn G columns (u % side G columns) c (b i) + q % 16))
@@ -89,7 +89,7 @@ module _ (G : Grid) (p : Proper G) (ms : List ℕ) (small : (j : ℕ) → getD m
   module _ (t : Track) (live : ℕ) (r : Both) (et : t ≡ track words (unitsOf G columns) (storedUnits G)) (el : live ≡ lineWord (half G columns) m)
       (ans : Answers t live r) where
     abbrev ends : unitsOf G columns ≤ storedUnits G
-    ends = units-stored (G .ssx) (G .w4) (p .ssx-le)
+    ends = units-stored (G .ss-hor) (G .w4) (p .ss-hor-le)
 
     in-halves : m ≡ min (n * half G columns) (unitsOf G rows - k * sb)
     in-halves = ap (λ (x : ℕ). min x (unitsOf G rows - k * sb)) (sym (at .many))

@@ -18,8 +18,8 @@ use Rattle.loops.proofs.Bools.{both-true}
 use Rattle.bits.specs.Bit.{hasBit}
 use Rattle.bits.specs.Mark.{isSet}
 use Rattle.bits.proofs.Bits.{hasBit-or, hasBit-nil}
-use Rattle.plane.specs.Line.{Pass}
-use Rattle.edges.specs.Edges.{Grid, other, unitsOf, side, half, classes, edgeBit, highest, Proper}
+use Rattle.plane.specs.Line.{Pass, other}
+use Rattle.edges.specs.Edges.{Grid, unitsOf, side, half, classes, edgeBit, highest, Proper}
 use Rattle.gap.specs.declared.Both.{Both}
 use Rattle.gap.specs.declared.track.Track.{Track}
 use Rattle.gap.specs.Line.{lineBroken}
@@ -65,10 +65,10 @@ module _ (G : Grid) (p : Proper G) (ms : List ℕ) (d : Pass) (J halves : ℕ) (
   line-made q u lq =
       by-cases (decLt u n)
       (λ h.
-      let r : (c : ℕ) → c < 3 → hasBit (words u c) q ≡ in-kind (set u q) (G .isLuma) c = λ c lc. reads u c q (omega arith) lc lq in
+      let r : (c : ℕ) → c < 3 → hasBit (words u c) q ≡ in-kind (set u q) (G .luma) c = λ c lc. reads u c q (omega arith) lc lq in
       rw (lt-ltb u n h)
       ((λ t. cond (r 2 (omega arith) t) (some 2) (cond (r 1 (omega arith) t) (some 1) (cond (r 0 (omega arith) t) (some 0) none)))
-      ∙ three-classes (set u q) (G .isLuma)))
+      ∙ three-classes (set u q) (G .luma)))
       (λ h.
       let z = hasBit-nil q in
       rw (le-ltb u n (omega arith)) (λ t. cond (z t) (some 2) (cond (z t) (some 1) (cond (z t) (some 0) none))))
@@ -78,7 +78,7 @@ module _ (G : Grid) (p : Proper G) (ms : List ℕ) (d : Pass) (J halves : ℕ) (
       hasBit-or (words u 0) (bitOr (words u 1) (words u 2)) q
       ∙ ap₂ _||_ (reads u 0 q i (omega arith) lq)
       (hasBit-or (words u 1) (words u 2) q ∙ ap₂ _||_ (reads u 1 q i (omega arith) lq) (reads u 2 q i (omega arith) lq))
-      ∙ some-class (set u q) (G .isLuma)
+      ∙ some-class (set u q) (G .luma)
 
   abbrev h : ℕ
   h = half G d

@@ -22,7 +22,7 @@ use Rattle.gap.proofs.Walks.{part-track}
 
 pub proper-chroma : (ss-hor ss-ver w4 h4 : ℕ) → ss-hor ≤ 1 → ss-ver ≤ 1 → Proper (chromaGrid ss-hor ss-ver w4 h4)
 proper-chroma ss-hor ss-ver w4 h4 p q =
-    record { ssx-le = p; ssy-le = q; luma-x = λ e. absurd (false≢true e); luma-y = λ e. absurd (false≢true e) }
+    record { ss-hor-le = p; ss-ver-le = q; luma-x = λ e. absurd (false≢true e); luma-y = λ e. absurd (false≢true e) }
 
 -- ---- bounds
 
@@ -55,50 +55,50 @@ module _ (len w4 h4 sb4 k : ℕ) (f : MasksFit len w4 h4 sb4 k) where
   masks-in =
       omega (arith, f .long, mul-le-mul-right (records w4) (halves-of .down), mul-comm (records w4) (records h4), add-mul (recordRow sb4 k) 1 (records w4))
 
-  -- record g of it
-  pub record-in : (g : ℕ) → g < records w4 → 640 * (recordRow sb4 k * records w4 + g) + 640 ≤ len
-  record-in g l = omega (arith, masks-in, add-mul (recordRow sb4 k) 1 (records w4))
+  -- record rec of it
+  pub record-in : (rec : ℕ) → rec < records w4 → 640 * (recordRow sb4 k * records w4 + rec) + 640 ≤ len
+  record-in rec l = omega (arith, masks-in, add-mul (recordRow sb4 k) 1 (records w4))
 
 -- a record's number, as the code makes it
-module _ (q R l groups : ℕ) (el : l ≡ q) (eg : groups ≡ R) where
-  pub records-small : q < 128 → R ≤ 128 → l * groups ≤ 16256
-  records-small a b = prod-le l groups 127 128 (omega arith) (omega arith)
+module _ (q R l records : ℕ) (el : l ≡ q) (eg : records ≡ R) where
+  pub records-small : q < 128 → R ≤ 128 → l * records ≤ 16256
+  records-small a b = prod-le l records 127 128 (omega arith) (omega arith)
 
   -- where a pass starts there
-  pub record-place : (luma : Bool) (pass g at : ℕ) → at ≡ 640 * (l * groups + g) + startOf luma pass → at ≡ 640 * (q * R + g) + startOf luma pass
-  record-place luma pass g at e = e ∙ (λ i. 640 * (el i * eg i + g) + startOf luma pass)
+  pub record-place : (luma : Bool) (pass rec at : ℕ) → at ≡ 640 * (l * records + rec) + startOf luma pass → at ≡ 640 * (q * R + rec) + startOf luma pass
+  record-place luma pass rec at e = e ∙ (λ i. 640 * (el i * eg i + rec) + startOf luma pass)
 
-  pub columns-fit : (luma : Bool) (len at first : ℕ) → 640 * ((q + 1) * R) ≤ len → at ≡ 640 * (l * groups) + startOf luma 0 → first < 2
-      → at + first + 640 * groups + stepOf luma * 32 ≤ len + 640
+  pub columns-fit : (luma : Bool) (len at first : ℕ) → 640 * ((q + 1) * R) ≤ len → at ≡ 640 * (l * records) + startOf luma 0 → first < 2
+      → at + first + 640 * records + stepOf luma * 32 ≤ len + 640
   columns-fit luma len at first h e f = rw (e, el, eg) (omega (arith, add-mul q 1 R, columns-in luma))
 
-  pub rows-fit : (luma : Bool) (len g at m : ℕ) → 640 * (q * R + g) + 640 ≤ len → at ≡ 640 * (l * groups + g) + startOf luma 1 → m ≤ 32
+  pub rows-fit : (luma : Bool) (len rec at m : ℕ) → 640 * (q * R + rec) + 640 ≤ len → at ≡ 640 * (l * records + rec) + startOf luma 1 → m ≤ 32
       → at + stepOf luma * m ≤ len
-  rows-fit luma len g at m h e lm = fewer-units luma at m 32 len lm (rw (e, el, eg) (omega (arith, start-in luma 1 (omega arith))))
+  rows-fit luma len rec at m h e lm = fewer-units luma at m 32 len lm (rw (e, el, eg) (omega (arith, start-in luma 1 (omega arith))))
 
 -- ---- the walks
 
-module _ (ms : List ℕ) (luma : Bool) (hs base ss wide : ℕ) (h : ss ≤ 1) where
-  pub columns-none : (t : Track) → t ≡ startT → t ≡ track (columnWords ms luma hs base (32 / 2 ^ ss)) wide (0 * (32 / 2 ^ ss))
+module _ (ms : List ℕ) (luma : Bool) (hs base ss width : ℕ) (h : ss ≤ 1) where
+  pub columns-none : (t : Track) → t ≡ startT → t ≡ track (columnWords ms luma hs base (32 / 2 ^ ss)) width (0 * (32 / 2 ^ ss))
   unfolding track
-  columns-none t e = e ∙ ap (track (columnWords ms luma hs base (32 / 2 ^ ss)) wide) (sym (zero-mul (32 / 2 ^ ss)))
+  columns-none t e = e ∙ ap (track (columnWords ms luma hs base (32 / 2 ^ ss)) width) (sym (zero-mul (32 / 2 ^ ss)))
 
-  column-word : (g i c : ℕ) → i < 32 / 2 ^ ss
-      → classWord ms luma hs (base + 640 * g) (0 + i) c ≡ columnWords ms luma hs base (32 / 2 ^ ss) (g * (32 / 2 ^ ss) + i) c
+  column-word : (rec i c : ℕ) → i < 32 / 2 ^ ss
+      → classWord ms luma hs (base + 640 * rec) (0 + i) c ≡ columnWords ms luma hs base (32 / 2 ^ ss) (rec * (32 / 2 ^ ss) + i) c
   unfolding columnWords
-  column-word g i c l =
+  column-word rec i c l =
       let k = halves ss h in
-      let a = sym (k .of-record g i l) in
-      let b = zero-add i ∙ sym (k .in-record g i l) in
+      let a = sym (k .of-record rec i l) in
+      let b = zero-add i ∙ sym (k .in-record rec i l) in
       (λ t. classWord ms luma hs (base + 640 * a t) (b t) c)
 
-  pub columns-more : (g n : ℕ) (t r : Track) → n ≡ min (32 / 2 ^ ss) (wide - g * (32 / 2 ^ ss))
-      → t ≡ track (columnWords ms luma hs base (32 / 2 ^ ss)) wide (g * (32 / 2 ^ ss)) → r ≡ partT ms luma hs (base + 640 * g) 0 n (32 / 2 ^ ss) t
-      → r ≡ track (columnWords ms luma hs base (32 / 2 ^ ss)) wide ((g + 1) * (32 / 2 ^ ss))
-  columns-more g n t r en et er =
-      part-track (columnWords ms luma hs base (32 / 2 ^ ss)) wide ms luma hs (base + 640 * g) 0 (g * (32 / 2 ^ ss)) n (32 / 2 ^ ss) t r en
-      (column-word g) et er
-      ∙ ap (track (columnWords ms luma hs base (32 / 2 ^ ss)) wide) (omega (arith, add-mul g 1 (32 / 2 ^ ss)))
+  pub columns-more : (rec n : ℕ) (t r : Track) → n ≡ min (32 / 2 ^ ss) (width - rec * (32 / 2 ^ ss))
+      → t ≡ track (columnWords ms luma hs base (32 / 2 ^ ss)) width (rec * (32 / 2 ^ ss)) → r ≡ partT ms luma hs (base + 640 * rec) 0 n (32 / 2 ^ ss) t
+      → r ≡ track (columnWords ms luma hs base (32 / 2 ^ ss)) width ((rec + 1) * (32 / 2 ^ ss))
+  columns-more rec n t r en et er =
+      part-track (columnWords ms luma hs base (32 / 2 ^ ss)) width ms luma hs (base + 640 * rec) 0 (rec * (32 / 2 ^ ss)) n (32 / 2 ^ ss) t r en
+      (column-word rec) et er
+      ∙ ap (track (columnWords ms luma hs base (32 / 2 ^ ss)) width) (omega (arith, add-mul rec 1 (32 / 2 ^ ss)))
 
 pub rows-walked : (ms : List ℕ) (luma : Bool) (at from n sb : ℕ) (t r : Track) → n ≤ sb → t ≡ startT → r ≡ partT ms luma 2 at from n sb t
     → r ≡ track (rowWords ms luma at from) n sb

@@ -1,6 +1,6 @@
 -- The tests mean what document 01 says
 pub mod Rule
-pub mod Told
+pub mod NumbersMean
 -- Numbers of the plane, and its words and bits
 pub mod Shapes
 pub mod Runs

@@ -12,9 +12,9 @@ use borrow.Author.Tests.{eq-eqb, ne-eqb, lt-ltb, le-ltb, ltb-true}
 use Rattle.bits.specs.Bit.{hasBit}
 use Rattle.bits.specs.Mark.{isSet}
 use Rattle.bits.proofs.Bits.{has-of-bit, bit-low, bit-high, hasBit-nil}
-use Rattle.plane.specs.Line.{Pass, columns, rows}
+use Rattle.plane.specs.Line.{Pass, columns, rows, other, passNo}
 use Rattle.units.specs.Memory.{lumaWord, chromaWord, lumaBit, chromaBit, halfUnits}
-use Rattle.edges.specs.Edges.{Grid, other, passNo, ssOf, unitsOf, side, half, recordAt, wordIn, bitIn, edgeBit, Proper}
+use Rattle.edges.specs.Edges.{Grid, ssOf, unitsOf, side, half, recordAt, wordIn, bitIn, edgeBit, Proper}
 use Rattle.gap.specs.Numbers.{halfBit, fits}
 use Rattle.gap.specs.Track.{wordAt, stepOf, startOf, classWord}
 use Rattle.loops.proofs.Bools.{both-true}
@@ -22,10 +22,10 @@ use Rattle.gap.proofs.Shapes.{Halves, halves}
 
 module _ (G : Grid) (p : Proper G) where
   pub ss-le : (d : Pass) → ssOf G d ≤ 1
-  ss-le columns = p .ssx-le
-  ss-le rows = p .ssy-le
+  ss-le columns = p .ss-hor-le
+  ss-le rows = p .ss-ver-le
 
-  luma-ss : (d : Pass) → G .isLuma ≡ true → ssOf G d ≡ 0
+  luma-ss : (d : Pass) → G .luma ≡ true → ssOf G d ≡ 0
   luma-ss columns = p .luma-x
   luma-ss rows = p .luma-y
 
@@ -37,7 +37,7 @@ module _ (G : Grid) (p : Proper G) where
 
   bit-in : (d : Pass) (unit c place : ℕ) → bitIn G d unit c place ≡ 16 * wordIn G d unit c (place / half G d) + place % half G d
   unfolding lumaBit chromaBit
-  bit-in d unit c place = go (G .isLuma) (λ e. ap halfUnits (sym (luma-ss (other d) e)))
+  bit-in d unit c place = go (G .luma) (λ e. ap halfUnits (sym (luma-ss (other d) e)))
     where
       go : (b : Bool) → (b ≡ true → 16 ≡ half G d)
           → cond b (lumaBit (passNo d) unit c place) (chromaBit (ssOf G (other d)) (passNo d) unit c place)
@@ -57,17 +57,17 @@ module _ (G : Grid) (p : Proper G) where
 
 -- ---- the word of a half, as the walk counts
 
-pub word-in : (G : Grid) (d : Pass) (unit c h : ℕ) → wordIn G d unit c h ≡ startOf (G .isLuma) (passNo d) + stepOf (G .isLuma) * unit + 2 * c + h
-word-in G d unit c h = go (G .isLuma) refl
+pub word-in : (G : Grid) (d : Pass) (unit c h : ℕ) → wordIn G d unit c h ≡ startOf (G .luma) (passNo d) + stepOf (G .luma) * unit + 2 * c + h
+word-in G d unit c h = go (G .luma) refl
   where
-    go : (b : Bool) → G .isLuma ≡ b → wordIn G d unit c h ≡ startOf (G .isLuma) (passNo d) + stepOf (G .isLuma) * unit + 2 * c + h
+    go : (b : Bool) → G .luma ≡ b → wordIn G d unit c h ≡ startOf (G .luma) (passNo d) + stepOf (G .luma) * unit + 2 * c + h
     go true e = rw e (omega arith)
     go false e = rw e (omega arith)
 
 module _ (ms : List ℕ) (small : (j : ℕ) → getD ms j 0 < 65536) (halves : ℕ) (some : 0 < halves) (two : halves ≤ 2) where
   word-bit : (i q : ℕ) → q < 32 → hasBit (wordAt ms halves i) q ≡ (ltb (q / 16) halves && isSet ms (16 * i + q))
   unfolding wordAt isSet
-  word-bit i q l = by-cases (decLt q 16) low high
+  word-bit i q l = by-cases (decLt q 16) low height
     where
       hi : ℕ
       hi = cond (eqb halves 2) (getD ms (i + 1) 0) 0
@@ -86,8 +86,8 @@ module _ (ms : List ℕ) (small : (j : ℕ) → getD ms j 0 < 65536) (halves : �
           rw (eq-eqb halves 2 e, lt-ltb (q / 16) halves (omega arith)) (λ t. hasBit (getD ms (d t) 0) (m t))
       up p (no e) = rw (ne-eqb halves 2 e, le-ltb (q / 16) halves (omega arith)) (hasBit-nil (q - 16))
 
-      high : ¬ (q < 16) → hasBit (hi * 2 ^ 16 + getD ms i 0) q ≡ (ltb (q / 16) halves && isSet ms (16 * i + q))
-      high p =
+      height : ¬ (q < 16) → hasBit (hi * 2 ^ 16 + getD ms i 0) q ≡ (ltb (q / 16) halves && isSet ms (16 * i + q))
+      height p =
           let e : q ≡ 16 + (q - 16) = omega arith in
           ap (hasBit (hi * 2 ^ 16 + getD ms i 0)) e
           ∙ has-of-bit _ _ (16 + (q - 16)) (q - 16) (bit-high hi (getD ms i 0) 16 (q - 16) (small i))

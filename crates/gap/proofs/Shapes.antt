@@ -16,8 +16,8 @@ by-sb P p q sb4 = ⊎-elim (λ e. subst P (sym e) p) (λ e. subst P (sym e) q)
 pub units-stored : (ss n : ℕ) → ss ≤ 1 → chromaUnits ss n ≤ records n * (32 / 2 ^ ss)
 units-stored ss n h = by-ss (λ t. chromaUnits t n ≤ records n * (32 / 2 ^ t)) (omega arith) (omega arith) ss h
 
-pub record-starts : (ss n g : ℕ) → ss ≤ 1 → g < records n → g * (32 / 2 ^ ss) < chromaUnits ss n
-record-starts ss n g h l = by-ss (λ t. g * (32 / 2 ^ t) < chromaUnits t n) (omega arith) (omega arith) ss h
+pub record-starts : (ss n rec : ℕ) → ss ≤ 1 → rec < records n → rec * (32 / 2 ^ ss) < chromaUnits ss n
+record-starts ss n rec h l = by-ss (λ t. rec * (32 / 2 ^ t) < chromaUnits t n) (omega arith) (omega arith) ss h
 
 -- ---- a record of `side` units holds two halves
 
@@ -31,9 +31,9 @@ pub record Halves (half side : ℕ) : Type 0 where
   pub bit : (h b : ℕ) → b < half → (h * half + b) % half ≡ b
   -- half h of record l
   pub half-at : (l h b : ℕ) → (l * 2 + h) * half + b ≡ l * side + (h * half + b)
-  -- unit i of record g
-  pub of-record : (g i : ℕ) → i < side → (g * side + i) / side ≡ g
-  pub in-record : (g i : ℕ) → i < side → (g * side + i) % side ≡ i
+  -- unit i of record rec
+  pub of-record : (rec i : ℕ) → i < side → (rec * side + i) / side ≡ rec
+  pub in-record : (rec i : ℕ) → i < side → (rec * side + i) % side ≡ i
   -- unit y is unit y % half of half y / half
   pub half-of : (n y : ℕ) → y < n * half → y / half < n
   pub bit-of : (y : ℕ) → y % half < half
@@ -50,8 +50,8 @@ halves =
       halfNo = λ h b l. omega arith;
       bit = λ h b l. omega arith;
       half-at = λ l h b. omega arith;
-      of-record = λ g i l. omega arith;
-      in-record = λ g i l. omega arith;
+      of-record = λ rec i l. omega arith;
+      in-record = λ rec i l. omega arith;
       half-of = λ n y l. omega arith;
       bit-of = λ y. omega arith;
       again = λ y. omega arith;
@@ -64,8 +64,8 @@ halves =
       halfNo = λ h b l. omega arith;
       bit = λ h b l. omega arith;
       half-at = λ l h b. omega arith;
-      of-record = λ g i l. omega arith;
-      in-record = λ g i l. omega arith;
+      of-record = λ rec i l. omega arith;
+      in-record = λ rec i l. omega arith;
       half-of = λ n y l. omega arith;
       bit-of = λ y. omega arith;
       again = λ y. omega arith;

@@ -116,10 +116,10 @@ module _ (words : ℕ → ℕ → ℕ) (n : ℕ) where
     run-track : (inside : Bool) (from u m : ℕ) → ((i : ℕ) → i < m → ltb (u + i) n ≡ inside)
         → ((i c : ℕ) → i < m → classWord ms luma halves at (from + i) c ≡ words (u + i) c) → runT ms luma halves inside at from m (t u) ≡ t (u + m)
     unfolding runT unitAtT track
-    run-track inside from u zero f g = ap t (sym (add-zero u))
-    run-track inside from u (suc m) f g =
-        (λ j. unitT inside (run-track inside from u m (λ i l. f i (omega arith)) (λ i c l. g i c (omega arith)) j) (g m 0 (le-refl (suc m)) j)
-        (g m 1 (le-refl (suc m)) j) (g m 2 (le-refl (suc m)) j))
+    run-track inside from u zero f rec = ap t (sym (add-zero u))
+    run-track inside from u (suc m) f rec =
+        (λ j. unitT inside (run-track inside from u m (λ i l. f i (omega arith)) (λ i c l. rec i c (omega arith)) j) (rec m 0 (le-refl (suc m)) j)
+        (rec m 1 (le-refl (suc m)) j) (rec m 2 (le-refl (suc m)) j))
         ∙ unit-cut inside (u + m) (t (u + m)) (f m (le-refl (suc m)))
         ∙ ap t (sym (add-suc u m))
 
@@ -127,13 +127,13 @@ module _ (words : ℕ → ℕ → ℕ) (n : ℕ) where
     pub part-track : (from u m end : ℕ) (s r : Track) → m ≡ min end (n - u)
         → ((i c : ℕ) → i < end → classWord ms luma halves at (from + i) c ≡ words (u + i) c) → s ≡ t u → r ≡ partT ms luma halves at from m end s → r ≡ t (u + end)
     unfolding partT
-    part-track from u m end s r em g es er =
+    part-track from u m end s r em rec es er =
         let e : u + m + (end - m) ≡ u + end = omega arith in
         er
         ∙ ap (runT ms luma halves false at (from + m) (end - m))
-        (ap (runT ms luma halves true at from m) es ∙ run-track true from u m (λ i l. lt-ltb (u + i) n (omega arith)) (λ i c l. g i c (omega arith)))
+        (ap (runT ms luma halves true at from m) es ∙ run-track true from u m (λ i l. lt-ltb (u + i) n (omega arith)) (λ i c l. rec i c (omega arith)))
         ∙ run-track false (from + m) (u + m) (end - m) (λ i l. le-ltb (u + m + i) n (omega arith))
-        (λ i c l. ap (λ (k : ℕ). classWord ms luma halves at k c) (omega arith) ∙ g (m + i) c (omega arith) ∙ ap (λ (k : ℕ). words k c) (omega arith))
+        (λ i c l. ap (λ (k : ℕ). classWord ms luma halves at k c) (omega arith) ∙ rec (m + i) c (omega arith) ∙ ap (λ (k : ℕ). words k c) (omega arith))
         ∙ ap t e
 
 -- ---- for the code

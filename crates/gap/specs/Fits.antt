@@ -8,6 +8,6 @@ use Rattle.units.specs.Frame.{frameRecords}
 pub record MasksFit (len w4 h4 sb4 k : ℕ) : Type 0 where
   pub size : (sb4 ≡ 16) ⊎ (sb4 ≡ 32)
   pub down : k * sb4 < h4
-  pub wide : w4 ≤ 4096
-  pub high : h4 ≤ 4096
+  pub width : w4 ≤ 4096
+  pub height : h4 ≤ 4096
   pub long : 640 * frameRecords w4 h4 ≤ len

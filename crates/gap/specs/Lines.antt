@@ -1,12 +1,12 @@
 -- The lines of units of superblock row k, as the code counts them: in the bits of a mask's two halves, of which each holds h lines.
 --   bitOf                        the bit of line y, counted from the word's first half
 --   lineBit, lineWord            bit q is that of one of the first n lines; the word of those bits
---   inRecord                     the units of record g, `side` a record, of a plane that has n
+--   inRecord                     the units of record rec, `side` a record, of a plane that has n
 --   recordRow                    the record row of superblock row k
 --   firstLine, firstHalf         its first line and its first half there
 --   rowUnits                     its lines in the frame
 --   rowLines                     the bits of its lines in the frame, from its first half on
---   recordLines                  those of the lines of record g
+--   recordLines                  those of the lines of record rec
 use mathlib.Core.Bool.{Bool, _&&_}
 use Prim.Native.Nat.{ℕ, _+_, _-_, _*_, _/_, _%_, _^_, min}
 use lib.Dec.{ltb}
@@ -23,7 +23,7 @@ unfoldable pub lineWord : ℕ → ℕ → ℕ
 lineWord h n = (2 ^ (n - h) - 1) * 2 ^ 16 + (2 ^ min n h - 1)
 
 abbrev pub inRecord : ℕ → ℕ → ℕ → ℕ
-inRecord side n g = min side (n - g * side)
+inRecord side n rec = min side (n - rec * side)
 
 abbrev pub recordRow : ℕ → ℕ → ℕ
 recordRow sb4 k = k * sb4 / 32
@@ -41,4 +41,4 @@ abbrev pub rowLines : ℕ → ℕ → ℕ → ℕ → ℕ
 rowLines ss h4 sb4 k = lineWord (halfUnits ss) (rowUnits ss h4 sb4 k)
 
 abbrev pub recordLines : ℕ → ℕ → ℕ → ℕ
-recordLines ss w4 g = lineWord (halfUnits ss) (inRecord (32 / 2 ^ ss) (chromaUnits ss w4) g)
+recordLines ss w4 rec = lineWord (halfUnits ss) (inRecord (32 / 2 ^ ss) (chromaUnits ss w4) rec)

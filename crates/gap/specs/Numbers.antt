@@ -9,7 +9,7 @@
 --   badHalf         a bit of this half is set, of any class, and does not fit
 --   outside         number 12: in columns in the halves of this row, of all stored units; in rows in all halves, of the units of this row
 --   Found           the answers to both
---   RecordFound     those of rows in record g of the row alone
+--   RecordFound     those of rows in record rec of the row alone
 use mathlib.Core.Path.{_≡_}
 use mathlib.Core.Bool.{Bool, not, _&&_, cond}
 use mathlib.Core.List.{List}
@@ -18,16 +18,16 @@ use Prim.Native.Nat.{ℕ, _+_, _-_, _*_, _/_, _%_, min}
 use lib.Dec.{ltb}
 use Rattle.loops.specs.Any.{anyBelow}
 use Rattle.bits.specs.Mark.{isSet}
-use Rattle.plane.specs.Line.{Pass, columns, rows}
+use Rattle.plane.specs.Line.{Pass, columns, rows, other}
 use Rattle.units.specs.Frame.{records}
 use Rattle.units.specs.Units.{chromaUnit}
 use Rattle.gap.specs.declared.Both.{Both}
-use Rattle.edges.specs.Edges.{Grid, other, unitsOf, side, half, recordAt, classes, wordIn, edge}
+use Rattle.edges.specs.Edges.{Grid, unitsOf, side, half, recordAt, classes, wordIn, edge}
 use Rattle.gap.specs.Line.{lineBroken}
 use Rattle.gap.specs.Lines.{inRecord}
 
 abbrev pub sbUnits : Grid → ℕ → ℕ
-sbUnits G sb4 = chromaUnit (G .ssy) sb4
+sbUnits G sb4 = chromaUnit (G .ss-ver) sb4
 
 abbrev pub storedUnits : Grid → ℕ
 storedUnits G = records (G .w4) * side G columns
@@ -59,8 +59,8 @@ pub record Found (G : Grid) (ms : List ℕ) (d : Pass) (sb4 k : ℕ) (r : Both) 
   pub eleven : r .gap ≡ gap G ms d sb4 k
   pub twelve : r .out ≡ outside G ms d sb4 k
 
-pub record RecordFound (G : Grid) (ms : List ℕ) (sb4 k g : ℕ) (r : Both) : Type 0 where
+pub record RecordFound (G : Grid) (ms : List ℕ) (sb4 k rec : ℕ) (r : Both) : Type 0 where
   pub eleven : r .gap
-      ≡ anyBelow (inRecord (side G columns) (unitsOf G columns) g)
-      (λ i. lineBroken (part (k * sbUnits G sb4) (sbUnits G sb4) (λ y. edge G ms rows (y, g * side G columns + i))) (sbUnits G sb4))
-  pub twelve : r .out ≡ anyBelow (sbUnits G sb4) (λ i. anyBelow 2 (λ h. badHalf G ms rows (k * sbUnits G sb4 + i) (g * 2 + h)))
+      ≡ anyBelow (inRecord (side G columns) (unitsOf G columns) rec)
+      (λ i. lineBroken (part (k * sbUnits G sb4) (sbUnits G sb4) (λ y. edge G ms rows (y, rec * side G columns + i))) (sbUnits G sb4))
+  pub twelve : r .out ≡ anyBelow (sbUnits G sb4) (λ i. anyBelow 2 (λ h. badHalf G ms rows (k * sbUnits G sb4 + i) (rec * 2 + h)))

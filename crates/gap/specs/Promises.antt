@@ -13,9 +13,9 @@ use Prim.Native.Nat.{ℕ, _+_, _*_, _/_, _≤_, _<_}
 use Rattle.loops.specs.Exactly.{Reflects}
 use Rattle.bits.specs.Mark.{isSet}
 use Rattle.plane.specs.Gap.{GapRule}
-use Rattle.plane.specs.Line.{Pass, columns, rows}
+use Rattle.plane.specs.Line.{Pass, columns, rows, other}
 use Rattle.units.specs.Frame.{records}
-use Rattle.edges.specs.Edges.{Grid, other, unitsOf, half, classes, edgeBit, edge, Proper}
+use Rattle.edges.specs.Edges.{Grid, unitsOf, half, classes, edgeBit, edge, Proper}
 use Rattle.gap.specs.Numbers.{sbUnits, storedUnits, part, gap, halfBit, outside}
 
 abbrev pub Nowhere : ℕ → Type 0
@@ -55,9 +55,9 @@ pub record Outside (G : Grid) (ms : List ℕ) (d : Pass) (sb4 k : ℕ) : Type 0 
   pub refused : (half G d ≤ bit) ⊎ ((unitsOf G d ≤ unit) ⊎ (unitsOf G (other d) ≤ halfNo * half G d + bit))
 
 pub record Promises : Type 0 where
-  pub eleven : (G : Grid) (ms : List ℕ) (d : Pass) (sb4 k : ℕ) → G .ssx ≤ 1 → Reflects (gap G ms d sb4 k) (Gap G ms d sb4 k)
+  pub eleven : (G : Grid) (ms : List ℕ) (d : Pass) (sb4 k : ℕ) → G .ss-hor ≤ 1 → Reflects (gap G ms d sb4 k) (Gap G ms d sb4 k)
   -- and where 11 is not given each of the lines keeps the rule
-  pub kept : (G : Grid) (ms : List ℕ) (d : Pass) (sb4 k v : ℕ) → G .ssx ≤ 1 → gap G ms d sb4 k ≡ false → Looks G d sb4 k v → Keeps G ms d sb4 k v
+  pub kept : (G : Grid) (ms : List ℕ) (d : Pass) (sb4 k v : ℕ) → G .ss-hor ≤ 1 → gap G ms d sb4 k ≡ false → Looks G d sb4 k v → Keeps G ms d sb4 k v
   pub twelve : (G : Grid) (ms : List ℕ) (d : Pass) (sb4 k : ℕ) → Reflects (outside G ms d sb4 k) (Outside G ms d sb4 k)
   -- an edge is a bit of a half
   pub bits : (G : Grid) → Proper G → (d : Pass) (u c j b : ℕ) → b < half G d → edgeBit G d (u, j * half G d + b) c ≡ halfBit G d u c j b

@@ -11,7 +11,7 @@
 --   columnWords         the words of a line along the records from `base` on, `side` units a record
 --   columnTrack         the state at the end of the record row of superblock row k, of the row's own halves
 --   rowWords            the words of a line in one record, from unit `from` on
---   rowTrack            the state at the end of superblock row k in record g
+--   rowTrack            the state at the end of superblock row k in record rec
 --   Answers             numbers 11 and 12 of a state, whose words have 32 bits: `live` has those of the lines in the frame
 use mathlib.Core.Path.{_≡_}
 use mathlib.Core.Bool.{Bool, true, false, not, cond}
@@ -103,8 +103,8 @@ columnTrack ms luma ss w4 sb4 k =
     (records w4 * (32 / 2 ^ ss))
 
 abbrev pub rowTrack : List ℕ → Bool → ℕ → ℕ → ℕ → ℕ → ℕ → ℕ → Track
-rowTrack ms luma ss w4 h4 sb4 k g =
-    track (rowWords ms luma (640 * (recordRow sb4 k * records w4 + g) + startOf luma 1) (firstLine ss sb4 k)) (rowUnits ss h4 sb4 k)
+rowTrack ms luma ss w4 h4 sb4 k rec =
+    track (rowWords ms luma (640 * (recordRow sb4 k * records w4 + rec) + startOf luma 1) (firstLine ss sb4 k)) (rowUnits ss h4 sb4 k)
     (chromaUnit ss sb4)
 
 pub record Answers (t : Track) (live : ℕ) (r : Both) : Type 0 where

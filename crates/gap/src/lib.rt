@@ -33,24 +33,24 @@ fn answer(t: Track, live: u32) -> Both
     Both { gap, out }
 }
 
-// The walk along `groups` records from `base` on, of a plane that has `wide` units.
+// The walk along `records` records from `base` on, of a plane that has `width` units.
 fn columns_walk(
     masks: &[u16],
     luma: bool,
     halves: usize,
     base: usize,
     ss: usize,
-    wide: usize,
-    groups: usize,
+    width: usize,
+    records: usize,
 ) -> Track
-    requires { ⌜ (base + 640 * groups + stepOf luma * 32 ≤ length (now masks) + 640) × (ss ≤ 1) × (groups ≤ 128) ⌝ }
-    ensures { λ r. ⌜ r ≡ track (columnWords (now (masks .entry)) luma halves base (32 / 2 ^ ss)) wide (groups * (32 / 2 ^ ss)) ⌝ }
+    requires { ⌜ (base + 640 * records + stepOf luma * 32 ≤ length (now masks) + 640) × (ss ≤ 1) × (records ≤ 128) ⌝ }
+    ensures { λ r. ⌜ r ≡ track (columnWords (now (masks .entry)) luma halves base (32 / 2 ^ ss)) width (records * (32 / 2 ^ ss)) ⌝ }
 {
     let side = 32 >> ss;
     let mut t = track::start();
-    for g in 0..groups {
-        let n = lines::in_record(side, wide, g);
-        t = track::part(masks, luma, halves, base + 640 * g, 0, n, side, t);
+    for rec in 0..records {
+        let n = lines::in_record(side, width, rec);
+        t = track::part(masks, luma, halves, base + 640 * rec, 0, n, side, t);
     }
     t
 }
@@ -67,11 +67,11 @@ fn columns_track(
     requires { ⌜ (640 * ((recordRow (sb4 .0) k + 1) * records (w4 .0)) ≤ length (now masks)) × (k * sb4 .0 < 4096) × (ss ≤ 1) × (w4 .0 ≤ 4096) ⌝ }
     ensures { λ r. ⌜ r ≡ columnTrack (now (masks .entry)) luma ss (w4 .0) (sb4 .0) k ⌝ }
 {
-    let groups = units::frame::records_along(w4);
-    let wide = units::chroma_units(w4, ss);
-    let at = track::record_start(luma, 0, lines::record_row(sb4, k) * groups);
+    let records = units::frame::records_along(w4);
+    let width = units::chroma_units(w4, ss);
+    let at = track::record_start(luma, 0, lines::record_row(sb4, k) * records);
     let base = at + lines::first_half(sb4, k);
-    columns_walk(masks, luma, sb4.0 / 16, base, ss, wide.0, groups)
+    columns_walk(masks, luma, sb4.0 / 16, base, ss, width.0, records)
 }
 
 // The bits of the lines of superblock row k.
@@ -85,22 +85,22 @@ fn row_lines(ss: usize, h4: LumaUnit, sb4: LumaUnit, k: usize) -> u32
 fn columns(
     masks: &[u16],
     luma: bool,
-    ssx: usize,
-    ssy: usize,
+    ss_hor: usize,
+    ss_ver: usize,
     w4: LumaUnit,
     h4: LumaUnit,
     sb4: LumaUnit,
     k: usize,
 ) -> Both
-    requires { ⌜ MasksFit (length (now masks)) (w4 .0) (h4 .0) (sb4 .0) k × Proper (gridOf luma ssx ssy (w4 .0) (h4 .0)) ⌝ }
-    ensures { λ r. ⌜ Found (gridOf luma ssx ssy (w4 .0) (h4 .0)) (now (masks .entry)) columns (sb4 .0) k r ⌝ }
+    requires { ⌜ MasksFit (length (now masks)) (w4 .0) (h4 .0) (sb4 .0) k × Proper (gridOf luma «ss_hor» «ss_ver» (w4 .0) (h4 .0)) ⌝ }
+    ensures { λ r. ⌜ Found (gridOf luma «ss_hor» «ss_ver» (w4 .0) (h4 .0)) (now (masks .entry)) columns (sb4 .0) k r ⌝ }
 {
-    let t = columns_track(masks, luma, ssx, w4, sb4, k);
-    let live = row_lines(ssy, h4, sb4, k);
+    let t = columns_track(masks, luma, ss_hor, w4, sb4, k);
+    let live = row_lines(ss_ver, h4, sb4, k);
     answer(t, live)
 }
 
-// The walk down superblock row k in record g.
+// The walk down superblock row k in record rec.
 fn rows_track(
     masks: &[u16],
     luma: bool,
@@ -109,66 +109,66 @@ fn rows_track(
     h4: LumaUnit,
     sb4: LumaUnit,
     k: usize,
-    g: usize,
+    rec: usize,
 ) -> Track
-    requires { ⌜ MasksFit (length (now masks)) (w4 .0) (h4 .0) (sb4 .0) k × (ss ≤ 1) × (g < records (w4 .0)) ⌝ }
-    ensures { λ r. ⌜ r ≡ rowTrack (now (masks .entry)) luma ss (w4 .0) (h4 .0) (sb4 .0) k g ⌝ }
+    requires { ⌜ MasksFit (length (now masks)) (w4 .0) (h4 .0) (sb4 .0) k × (ss ≤ 1) × (rec < records (w4 .0)) ⌝ }
+    ensures { λ r. ⌜ r ≡ rowTrack (now (masks .entry)) luma ss (w4 .0) (h4 .0) (sb4 .0) k rec ⌝ }
 {
-    let groups = units::frame::records_along(w4);
-    let at = track::record_start(luma, 1, lines::record_row(sb4, k) * groups + g);
+    let records = units::frame::records_along(w4);
+    let at = track::record_start(luma, 1, lines::record_row(sb4, k) * records + rec);
     let first = lines::first_line(ss, sb4, k);
     let n = lines::row_units(ss, h4, sb4, k);
     let sb = units::chroma_unit(sb4, ss);
     track::part(masks, luma, 2, at, first, n, sb.0, track::start())
 }
 
-// The bits of the lines of record g.
-fn record_lines(ss: usize, w4: LumaUnit, g: usize) -> u32
-    requires { ⌜ (ss ≤ 1) × (w4 .0 ≤ 4096) × (g < records (w4 .0)) ⌝ }
-    ensures { λ r. ⌜ r ≡ recordLines ss (w4 .0) g ⌝ }
+// The bits of the lines of record rec.
+fn record_lines(ss: usize, w4: LumaUnit, rec: usize) -> u32
+    requires { ⌜ (ss ≤ 1) × (w4 .0 ≤ 4096) × (rec < records (w4 .0)) ⌝ }
+    ensures { λ r. ⌜ r ≡ recordLines ss (w4 .0) rec ⌝ }
 {
-    let wide = units::chroma_units(w4, ss);
-    let n = lines::in_record(32 >> ss, wide.0, g);
+    let width = units::chroma_units(w4, ss);
+    let n = lines::in_record(32 >> ss, width.0, rec);
     lines::line_word(16 >> ss, n)
 }
 
 fn rows_record(
     masks: &[u16],
     luma: bool,
-    ssx: usize,
-    ssy: usize,
+    ss_hor: usize,
+    ss_ver: usize,
     w4: LumaUnit,
     h4: LumaUnit,
     sb4: LumaUnit,
     k: usize,
-    g: usize,
+    rec: usize,
 ) -> Both
-    requires { ⌜ MasksFit (length (now masks)) (w4 .0) (h4 .0) (sb4 .0) k × Proper (gridOf luma ssx ssy (w4 .0) (h4 .0)) × (g < records (w4 .0)) ⌝ }
-    ensures { λ r. ⌜ RecordFound (gridOf luma ssx ssy (w4 .0) (h4 .0)) (now (masks .entry)) (sb4 .0) k g r ⌝ }
+    requires { ⌜ MasksFit (length (now masks)) (w4 .0) (h4 .0) (sb4 .0) k × Proper (gridOf luma «ss_hor» «ss_ver» (w4 .0) (h4 .0)) × (rec < records (w4 .0)) ⌝ }
+    ensures { λ r. ⌜ RecordFound (gridOf luma «ss_hor» «ss_ver» (w4 .0) (h4 .0)) (now (masks .entry)) (sb4 .0) k rec r ⌝ }
 {
-    let t = rows_track(masks, luma, ssy, w4, h4, sb4, k, g);
-    let live = record_lines(ssx, w4, g);
+    let t = rows_track(masks, luma, ss_ver, w4, h4, sb4, k, rec);
+    let live = record_lines(ss_hor, w4, rec);
     answer(t, live)
 }
 
 fn rows(
     masks: &[u16],
     luma: bool,
-    ssx: usize,
-    ssy: usize,
+    ss_hor: usize,
+    ss_ver: usize,
     w4: LumaUnit,
     h4: LumaUnit,
     sb4: LumaUnit,
     k: usize,
 ) -> Both
-    requires { ⌜ MasksFit (length (now masks)) (w4 .0) (h4 .0) (sb4 .0) k × Proper (gridOf luma ssx ssy (w4 .0) (h4 .0)) ⌝ }
-    ensures { λ r. ⌜ Found (gridOf luma ssx ssy (w4 .0) (h4 .0)) (now (masks .entry)) rows (sb4 .0) k r ⌝ }
+    requires { ⌜ MasksFit (length (now masks)) (w4 .0) (h4 .0) (sb4 .0) k × Proper (gridOf luma «ss_hor» «ss_ver» (w4 .0) (h4 .0)) ⌝ }
+    ensures { λ r. ⌜ Found (gridOf luma «ss_hor» «ss_ver» (w4 .0) (h4 .0)) (now (masks .entry)) rows (sb4 .0) k r ⌝ }
 {
-    let groups = units::frame::records_along(w4);
+    let records = units::frame::records_along(w4);
     let mut gap = false;
     let mut out = false;
-    for g in 0..groups {
-        let r = rows_record(masks, luma, ssx, ssy, w4, h4, sb4, k, g);
+    for rec in 0..records {
+        let r = rows_record(masks, luma, ss_hor, ss_ver, w4, h4, sb4, k, rec);
         gap = gap | r.gap;
         out = out | r.out;
     }

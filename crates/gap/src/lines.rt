@@ -21,12 +21,12 @@ pub fn line_word(h: usize, n: usize) -> u32
     bits::word(half_word(least(n, h)), half_word(over(n, h)))
 }
 
-// The units of record g.
-pub fn in_record(side: usize, n: usize, g: usize) -> usize
-    requires { ⌜ (side ≤ 32) × (g ≤ 128) ⌝ }
-    ensures { λ r. ⌜ r ≡ inRecord side n g ⌝ }
+// The units of record rec.
+pub fn in_record(side: usize, n: usize, rec: usize) -> usize
+    requires { ⌜ (side ≤ 32) × (rec ≤ 128) ⌝ }
+    ensures { λ r. ⌜ r ≡ inRecord side n rec ⌝ }
 {
-    least(side, over(n, g * side))
+    least(side, over(n, rec * side))
 }
 
 // The record row of superblock row k.
@@ -59,6 +59,6 @@ pub fn row_units(ss: usize, h4: LumaUnit, sb4: LumaUnit, k: usize) -> usize
     ensures { λ r. ⌜ r ≡ rowUnits ss (h4 .0) (sb4 .0) k ⌝ }
 {
     let sb = units::chroma_unit(sb4, ss);
-    let high = units::chroma_units(h4, ss);
-    least(sb.0, over(high.0, k * sb.0))
+    let height = units::chroma_units(h4, ss);
+    least(sb.0, over(height.0, k * sb.0))
 }

@@ -37,7 +37,8 @@ masks-long = refl
 
 -- number 12
 out : (d : Pass) → (outside (gridOf head 0) (after .masks) d 16 0 ≡ false) × (outside (gridOf head 1) (after .masks) d 16 0 ≡ false)
-unfolding outside badHalf halfBit isSet hasBit anyBelow Num_4x4_Blocks_Wide Num_4x4_Blocks_High Tx_Wide Tx_High bw4 bh4 cbw4 cbh4 inRecord gridMasks gridPass blockEdge stepEdges marks mark stores log2 edgeBit
+unfolding outside badHalf halfBit isSet hasBit anyBelow Num_4x4_Blocks_Wide Num_4x4_Blocks_High Tx_Wide Tx_High bw4 bh4 cbw4 cbh4 inRecord gridMasks gridPass blockEdge
+    stepEdges marks mark stores log2 edgeBit
 out columns = (refl, refl)
 out rows = (refl, refl)
 
@@ -57,9 +58,9 @@ zero-at (suc n) (suc i) = zero-at n i
 black : (n i : ℕ) → ltb 255 (getD (zeros n) i 0) ≡ false
 black n i = ap (λ (v : ℕ). ltb 255 v) (zero-at n i)
 
-low : (n stride wide sb above k : ℕ) → samplesHigh (zeros n) stride 255 wide sb above k ≡ false
+low : (n level-stride blockWidth sb above k : ℕ) → samplesHigh (zeros n) level-stride 255 blockWidth sb above k ≡ false
 unfolding samplesHigh
-low n stride wide sb above k = any-false _ _ (λ y _. any-false wide _ (λ x _. black n _))
+low n level-stride blockWidth sb above k = any-false _ _ (λ y _. any-false blockWidth _ (λ x _. black n _))
 
 long : (n : ℕ) → length (zeros n) ≡ n
 unfolding zeros
@@ -77,12 +78,22 @@ chroma-good rows = ap₂ (λ (n : ℕ) (b : Bool). not (planeOk n 64 64 64) || b
 
 module _ (L : Holds frame decoded 0) (C : Holds frame decoded 1) where
   shaped : Shaped head
-  shaped = record { wide = omega arith; high = omega arith; size = inl refl }
+  shaped = record { width = omega arith; height = omega arith; size = inl refl }
 
   done : (d : Pass) → answer frame d 0 samples ≡ 0
   unfolding number planeBad
   done columns =
-      rw (levels-long, masks-long, levels-good columns, luma-good columns, chroma-good columns, eleven frame decoded shaped 0 L columns 0, eleven frame decoded shaped 1 C columns 0, out columns .0, out columns .1) refl
+      rw (
+        levels-long,
+        masks-long,
+        levels-good columns,
+        luma-good columns,
+        chroma-good columns,
+        eleven frame decoded shaped 0 L columns 0,
+        eleven frame decoded shaped 1 C columns 0,
+        out columns .0,
+        out columns .1,
+      ) refl
   done rows =
       rw (levels-long, masks-long, levels-good rows, luma-good rows, chroma-good rows, eleven frame decoded shaped 0 L rows 0, eleven frame decoded shaped 1 C rows 0, out rows .0, out rows .1) refl
 

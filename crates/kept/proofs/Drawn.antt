@@ -9,8 +9,8 @@ use Rattle.plane.specs.Line.{Pass, columns, rows}
 use Rattle.units.specs.Units.{chromaUnits}
 use Rattle.edges.specs.Edges as edges
 use Rattle.edges.specs.Edges.{Grid, lumaGrid, chromaGrid}
-use Rattle.mask_edges.proofs.Asks.{chroma-low}
-use Rattle.mask_edges.proofs.Tells.{luma-low}
+use Rattle.mask_edges.proofs.BlockPasses.{chroma-low}
+use Rattle.mask_edges.proofs.CellTables.{luma-low}
 use Rattle.block.specs.Block.{Lent}
 use Rattle.frames.specs.Calls.{Frame}
 use Rattle.covering.specs.Front.{Tile, Begins}
@@ -28,8 +28,8 @@ module _ (f : Frame) (D : standard.Frame) (n : ℕ) (G : Grid) (A : Area) (sx sy
   begins B d = subst (λ (R : Tile). Begins start R (contextIn d s)) (sym (whole d)) (λ j _ h. B .contexts d j h)
 
   across-is : (d : Pass) → acrossOf D n d ≡ edges.unitsOf G d
-  across-is columns = ap₂ chromaUnits (T .right-ss) (sym (T .wide))
-  across-is rows = ap₂ chromaUnits (T .down-ss) (sym (T .high))
+  across-is columns = ap₂ chromaUnits (T .right-ss) (sym (T .width))
+  across-is rows = ap₂ chromaUnits (T .down-ss) (sym (T .height))
 
   covered : Drawn D n G A sx sy s t start → Covered D n
   covered r x y hx hy =
@@ -43,16 +43,16 @@ module _ (f : Frame) (D : standard.Frame) (n : ℕ) (G : Grid) (A : Area) (sx sy
       (λ _ T O. recorded f D n (r .blocks) s t start T O (covered r) e) units T
       (record { tile = λ d. subst (λ (R : Tile). InTile D n G d R (r .blocks) s t start) (whole d) (r .in-tile d); clear = B .clear })
 
-pub luma-calls : (f : Frame) (D : standard.Frame) (stride : ℕ) (A : Area) (l : List Call) (m n : Lent) → LumaCalls f D stride A l m n → Holds f D 0
-luma-calls f D stride A l m n L =
+pub luma-calls : (f : Frame) (D : standard.Frame) (level-stride : ℕ) (A : Area) (l : List Call) (m n : Lent) → LumaCalls f D level-stride A l m n → Holds f D 0
+luma-calls f D level-stride A l m n L =
     let w = blocks.promises .whole A true 0 0 (L .laid .sound) (L .whole) in
-    let r = blocks.promises .luma D stride A l m n 2 (L .tallies) (L .calls) (L .legal) (L .laid) (L .long) (λ k. omega (arith, luma-low k))
+    let r = blocks.promises .luma D level-stride A l m n 2 (L .tallies) (L .calls) (L .legal) (L .laid) (L .long) (λ k. omega (arith, luma-low k))
     (begins f D 0 (lumaGrid (A .w4) (A .h4)) A 0 0 (lumaState m) (lumaState n) 2 (L .units) (L .tallies) w (L .begun)) in
     one-tile f D 0 (lumaGrid (A .w4) (A .h4)) A 0 0 (lumaState m) (lumaState n) 2 (L .units) (L .tallies) w r (L .begun) (L .masks)
 
-pub chroma-calls : (f : Frame) (D : standard.Frame) (sx sy stride : ℕ) (A : Area) (l : List Call) (m n : Lent) → ChromaCalls f D sx sy stride A l m n → Holds f D 1
-chroma-calls f D sx sy stride A l m n L =
+pub chroma-calls : (f : Frame) (D : standard.Frame) (sx sy level-stride : ℕ) (A : Area) (l : List Call) (m n : Lent) → ChromaCalls f D sx sy level-stride A l m n → Holds f D 1
+chroma-calls f D sx sy level-stride A l m n L =
     let w = blocks.promises .whole A false sx sy (L .laid .sound) (L .whole) in
-    let r = blocks.promises .chroma D 1 stride A sx sy l m n 1 (L .tallies) (L .calls) (L .legal) (L .laid) (L .long) (λ k. omega (arith, chroma-low k))
+    let r = blocks.promises .chroma D 1 level-stride A sx sy l m n 1 (L .tallies) (L .calls) (L .legal) (L .laid) (L .long) (λ k. omega (arith, chroma-low k))
     (begins f D 1 (chromaGrid sx sy (A .w4) (A .h4)) A sx sy (chromaState m) (chromaState n) 1 (L .units) (L .tallies) w (L .begun)) in
     one-tile f D 1 (chromaGrid sx sy (A .w4) (A .h4)) A sx sy (chromaState m) (chromaState n) 1 (L .units) (L .tallies) w r (L .begun) (L .masks)

@@ -18,8 +18,8 @@ use Rattle.standard.specs.Edge.{applyFilter, isTxEdge, isBlockEdge}
 use Rattle.plane.specs.Line.{Pass, columns, rows}
 use Rattle.units.specs.Sizes.{log2}
 use Rattle.edges.specs.Edges.{edgeBit}
-use Rattle.mask_edges.proofs.Asks.{chroma-low}
-use Rattle.mask_edges.proofs.Tells.{luma-low}
+use Rattle.mask_edges.proofs.BlockPasses.{chroma-low}
+use Rattle.mask_edges.proofs.CellTables.{luma-low}
 use Rattle.block.specs.Block.{bw4, bh4, cbw4, cbh4, Lent}
 use Rattle.agree.specs.Legal.{Legal, Shows}
 use Rattle.agree.proofs.Theorems as agree
@@ -42,7 +42,7 @@ placed : (n last at : ℕ) → n ≡ 2 → at % 2 ≡ 0 → at + 2 ≤ last → 
 unfolding log2
 placed n last at e m h A f g =
     record {
-      side = rw e (record { power = refl; low = omega arith; high = omega arith });
+      side = rw e (record { power = refl; low = omega arith; at-most = omega arith });
       multiple = rw e m;
       begins = omega arith;
       ends = inl (omega arith);
@@ -169,22 +169,22 @@ same-at k (suc n) (suc i) h = same-at k n i (omega arith)
 luma-tallies : Tallies decoded 0 (lumaUnits (call 0 0 .block))
 luma-tallies =
     record {
-      proper = record { ssx-le = omega arith; ssy-le = omega arith; luma-x = λ _. refl; luma-y = λ _. refl };
+      proper = record { ss-hor-le = omega arith; ss-ver-le = omega arith; luma-x = λ _. refl; luma-y = λ _. refl };
       right-ss = refl;
       down-ss = refl;
-      wide = refl;
-      high = refl;
+      width = refl;
+      height = refl;
       low = λ n. luma-low n;
     }
 
 chroma-tallies : Tallies decoded 1 (chromaUnitsOf (call 0 0 .block))
 chroma-tallies =
     record {
-      proper = record { ssx-le = omega arith; ssy-le = omega arith; luma-x = λ z. absurd (false≢true z); luma-y = λ z. absurd (false≢true z) };
+      proper = record { ss-hor-le = omega arith; ss-ver-le = omega arith; luma-x = λ z. absurd (false≢true z); luma-y = λ z. absurd (false≢true z) };
       right-ss = refl;
       down-ss = refl;
-      wide = refl;
-      high = refl;
+      width = refl;
+      height = refl;
       low = λ n. chroma-low n;
     }
 

@@ -15,14 +15,14 @@ use Rattle.units.specs.Units.{chromaUnit}
 use Rattle.edges.specs.Edges.{edge}
 use Rattle.gap.specs.Numbers.{gap}
 use Rattle.gap.specs.Promises.{Keeps}
-use Rattle.gap.proofs.Told as numbers
+use Rattle.gap.proofs.NumbersMean as numbers
 use Rattle.checks.specs.Call.{sb4, chromaOn, Shaped}
 use Rattle.checks.proofs.Accepted.{accepted-shape}
-use Rattle.checks.proofs.Passed.{unmet, sizes}
+use Rattle.checks.proofs.TestsPassed.{unmet, sizes}
 use Rattle.apply.specs.Apply.{planeAt, shown}
 use Rattle.frames.specs.Whole.{BoundariesKeep}
 use Rattle.frames.specs.Calls.{Frame, callAt, lentOf, Accepted, BoundariesKept}
-use Rattle.frames.proofs.Kepts.{by-size}
+use Rattle.frames.proofs.GapKept.{by-size}
 use Rattle.covering.specs.Standard.{Covered}
 use Rattle.covering.proofs.Theorems as covering
 use Rattle.drawn.specs.Run.{State, Seen, Tallies, OneTile}
@@ -47,27 +47,29 @@ module _ (f : Frame) (D : standard.Frame) (shaped : Shaped (f .head)) where
     P = planeAt (f .head) (f .limits) (lentOf f (record { luma = []; u = []; v = [] })) n
 
     sb-four : P .sb % 4 ≡ 0
-    sb-four = by-size (λ s ss. chromaUnit ss s % 4 ≡ 0) refl refl refl refl (sb4 (f .head)) _ (sizes (f .head) shaped) (H .tallies .proper .ssy-le)
+    sb-four = by-size (λ s ss. chromaUnit ss s % 4 ≡ 0) refl refl refl refl (sb4 (f .head)) _ (sizes (f .head) shaped) (H .tallies .proper .ss-ver-le)
 
     end-four : (d : Pass) → end P d % 4 ≡ 0
-    end-four columns = side-four _ _ (H .tallies .proper .ssx-le)
-    end-four rows = side-four _ _ (H .tallies .proper .ssy-le)
+    end-four columns = side-four _ _ (H .tallies .proper .ss-hor-le)
+    end-four rows = side-four _ _ (H .tallies .proper .ss-ver-le)
 
     plane-gap : (d : Pass) (v : ℕ) → GapRule (λ u. P .edge d (u, v)) (Boundary P d) (end P d)
     plane-gap d v =
         subst (λ (e : ℕ → Option ℕ). GapRule e (Boundary P d) (end P d)) (λ q u. sym (H .edges d (u, v)) q)
-        (covering.promises .gap D n (omega (arith, H .tallies .right-ss, H .tallies .proper .ssx-le)) (omega (arith, H .tallies .down-ss, H .tallies .proper .ssy-le))
+        (covering.promises .gap D n (omega (arith, H .tallies .right-ss, H .tallies .proper .ss-hor-le)) (omega (arith, H .tallies .down-ss, H .tallies .proper .ss-ver-le))
         (H .covered) d v P sb-four (end-four d))
 
     keeps : (d : Pass) (k v : ℕ) → Keeps (unitsIn f n) (f .masks) d (sb4 (f .head)) k v
     keeps columns k v = plane-gap columns v
-    keeps rows k v = drawn.promises .row (λ u. P .edge rows (u, v)) (P .sb) (P .high) (plane-gap rows v) k
+    keeps rows k v = drawn.promises .row (λ u. P .edge rows (u, v)) (P .sb) (P .height) (plane-gap rows v) k
 
     boundaries : BoundariesKeep P
     boundaries = record { keeps = λ v k a c e m. plane-gap rows v .right a (k * P .sb) m c e }
 
     pub eleven : (d : Pass) (k : ℕ) → gap (unitsIn f n) (f .masks) d (sb4 (f .head)) k ≡ false
-    eleven d k = unmet (gap (unitsIn f n) (f .masks) d (sb4 (f .head)) k) (numbers.promises .eleven (unitsIn f n) (f .masks) d (sb4 (f .head)) k (H .tallies .proper .ssx-le)) (λ g. g .breaks (keeps d k (g .line)))
+    eleven d k =
+        unmet (gap (unitsIn f n) (f .masks) d (sb4 (f .head)) k) (numbers.promises .eleven (unitsIn f n) (f .masks) d (sb4 (f .head)) k (H .tallies .proper .ss-hor-le))
+        (λ g. g .breaks (keeps d k (g .line)))
 
   -- a plane that is not filtered has no edge
   shown-keeps : (on : Bool) (P : Plane) → (on ≡ true → BoundariesKeep P) → BoundariesKeep (shown on P)
@@ -88,4 +90,4 @@ module _ (f : Frame) (D : standard.Frame) (shaped : Shaped (f .head)) where
 pub shape-of : (f : Frame) (s : Three (List ℕ)) → Accepted f s → Shaped (f .head)
 shape-of f s a =
     let h = accepted-shape (callAt f columns 0) (lentOf f s) (a .all columns 0 (a .some)) in
-    record { wide = h .wide; high = h .high; size = h .size }
+    record { width = h .width; height = h .height; size = h .size }

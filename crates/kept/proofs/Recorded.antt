@@ -32,7 +32,8 @@ unfolding number anyBelow Num_4x4_Blocks_Wide Num_4x4_Blocks_High Tx_Wide Tx_Hig
 first = records 4 (call 0 0) clear refl
 
 pub second : Records 4 (call 2 1) between after
-unfolding number anyBelow Num_4x4_Blocks_Wide Num_4x4_Blocks_High Tx_Wide Tx_High bw4 bh4 cbw4 cbh4 fillLevels fillRow inRecord gridMasks gridPass blockEdge stepEdges marks mark stores log2 levelAt edgeBit
+unfolding number anyBelow Num_4x4_Blocks_Wide Num_4x4_Blocks_High Tx_Wide Tx_High bw4 bh4 cbw4 cbh4 fillLevels fillRow inRecord gridMasks gridPass blockEdge stepEdges
+    marks mark stores log2 levelAt edgeBit
 second = records 4 (call 2 1) between refl
 
 -- ---- the masks are words of 16 bits

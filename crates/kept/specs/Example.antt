@@ -54,13 +54,13 @@ head =
       layout = 420;
       superblock = 64;
       depth = 8;
-      levelu = 20;
-      levelv = 20;
+      «level_u» = 20;
+      «level_v» = 20;
       row = 0;
       rowwise = false;
-      stride = 128;
-      uvstride = 64;
-      pitch = 4;
+      «luma_stride» = 128;
+      «chroma_stride» = 64;
+      «level_stride» = 4;
     }
 
 -- the frame is one tile

@@ -12,8 +12,8 @@ use Prim.Native.Nat.{ℕ, _<_}
 use Rattle.loops.specs.Run.{All}
 use Rattle.bits.specs.Mark.{isSet}
 use Rattle.standard.specs.Edge as standard
-use Rattle.plane.specs.Line.{Pass, Piece}
-use Rattle.edges.specs.Edges.{Grid, lumaGrid, chromaGrid, unitsOf, other, classes, edgeBit, edge}
+use Rattle.plane.specs.Line.{Pass, Piece, other}
+use Rattle.edges.specs.Edges.{Grid, lumaGrid, chromaGrid, unitsOf, classes, edgeBit, edge}
 use Rattle.block.specs.Block.{Lent}
 use Rattle.filter.specs.Filter.{gridOf}
 use Rattle.checks.specs.Call.{chromaOn}
@@ -40,24 +40,24 @@ pub record Begun (G : Grid) (start : ℕ) (s : State) : Type 0 where
   pub clear : (d : Pass) (p : Piece) (c : ℕ) → p .0 < unitsOf G d → p .1 < unitsOf G (other d) → c < classes G → isSet (s .masks) (edgeBit G d p c) ≡ false
   pub contexts : (d : Pass) (j : ℕ) → j < unitsOf G (other d) → contextIn d s j ≡ start
 
-pub record LumaCalls (f : Frame) (D : standard.Frame) (stride : ℕ) (A : Area) (l : List Call) (m n : Lent) : Type 0 where
+pub record LumaCalls (f : Frame) (D : standard.Frame) (level-stride : ℕ) (A : Area) (l : List Call) (m n : Lent) : Type 0 where
   pub units : unitsIn f 0 ≡ lumaGrid (A .w4) (A .h4)
   pub tallies : Tallies D 0 (lumaGrid (A .w4) (A .h4))
   pub whole : Whole A
   pub begun : Begun (lumaGrid (A .w4) (A .h4)) 2 (lumaState m)
   pub long : LumaLong A m
-  pub calls : Calls stride l m n
+  pub calls : Calls level-stride l m n
   pub legal : All (LumaLegal D A) l
   pub laid : Laid A 0 0 l
   pub masks : f .masks ≡ n .masks
 
-pub record ChromaCalls (f : Frame) (D : standard.Frame) (sx sy stride : ℕ) (A : Area) (l : List Call) (m n : Lent) : Type 0 where
+pub record ChromaCalls (f : Frame) (D : standard.Frame) (sx sy level-stride : ℕ) (A : Area) (l : List Call) (m n : Lent) : Type 0 where
   pub units : unitsIn f 1 ≡ chromaGrid sx sy (A .w4) (A .h4)
   pub tallies : Tallies D 1 (chromaGrid sx sy (A .w4) (A .h4))
   pub whole : Whole A
   pub begun : Begun (chromaGrid sx sy (A .w4) (A .h4)) 1 (chromaState m)
   pub long : ChromaLong A sx sy m
-  pub calls : Calls stride l m n
+  pub calls : Calls level-stride l m n
   pub legal : All (ChromaLegal D 1 A sx sy) l
   pub laid : Laid A sx sy l
   pub masks : f .masks ≡ n .masks

@@ -25,8 +25,8 @@ pub record Promises : Type 0 where
   pub recorded : (f : Frame) (D : standard.Frame) (n : ℕ) (l : List Seen) (s t : State) (start : ℕ) → Tallies D n (unitsIn f n)
       → OneTile D n (unitsIn f n) l s t start → Covered D n → f .masks ≡ t .masks → Holds f D n
   -- as accepted calls for legal blocks that cover the frame record them, in luma and in chroma
-  pub luma-calls : (f : Frame) (D : standard.Frame) (stride : ℕ) (A : Area) (l : List Call) (m n : Lent) → LumaCalls f D stride A l m n → Holds f D 0
-  pub chroma-calls : (f : Frame) (D : standard.Frame) (sx sy stride : ℕ) (A : Area) (l : List Call) (m n : Lent) → ChromaCalls f D sx sy stride A l m n → Holds f D 1
+  pub luma-calls : (f : Frame) (D : standard.Frame) (level-stride : ℕ) (A : Area) (l : List Call) (m n : Lent) → LumaCalls f D level-stride A l m n → Holds f D 0
+  pub chroma-calls : (f : Frame) (D : standard.Frame) (sx sy level-stride : ℕ) (A : Area) (l : List Call) (m n : Lent) → ChromaCalls f D sx sy level-stride A l m n → Holds f D 1
   -- and so does a plane of several tiles, once their starts are corrected too
   pub in-tiles : (f : Frame) (D : standard.Frame) (n : ℕ) (start : ℕ) (ts : List Tile) (l : List Fix) (clear drawn : List ℕ)
       → InTiles D n (unitsIn f n) start ts l clear drawn (f .masks) → Covered D n → Holds f D n

@@ -42,7 +42,7 @@ module _ {layout r : ℕ} {x : LevelsIn} {before after : List ℕ} (a : LevelsAn
         intra =
             λ e s k p. value-is e s k 0 0 p
             ∙ modes-alike x s k
-            ∙ sym (value-is e s k 0 1 (record { segment = p .segment; in-use = p .in-use; kind = p .kind; reference = p .reference; mode = omega arith }));
+            ∙ sym (value-is e s k 0 1 (record { segment = p .segment; in-use = p .in-use; area = p .area; reference = p .reference; mode = omega arith }));
         small = λ e s k q m p. rw (value-is e s k q m p) (level-small x s k q m);
       }
 

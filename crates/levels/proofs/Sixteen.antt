@@ -1,4 +1,5 @@
--- The sixteen values of a kind are those of the definition, and the kinds stored one after another are the table: no delta of a segment is a delta of 0, and byte 16 * c + j is reference j / 2 and mode j % 2 of kind c.
+-- The sixteen values of a area are those of the definition, and the kinds stored one after another are the table: no delta of a segment is
+-- a delta of 0, and byte 16 * c + j is reference j / 2 and mode j % 2 of area c.
 use mathlib.Core.Bool.{Bool, true, false, cond}
 use mathlib.Core.List.{List, _++_}
 use mathlib.Core.Logic.{by-cases}
@@ -15,7 +16,7 @@ use Rattle.loops.specs.Table.{tabulate}
 use Rattle.standard.specs.Math.{Clip3}
 use Rattle.standard.specs.Level.{baseFilterLevel, lvlSeg, lvlDelta, filterLevel}
 use Rattle.deltas.specs.Deltas.{on, delta}
-use Rattle.levels.specs.Levels.{LevelsIn, baseAt, lfDelta, kindLevel, lumaOff, level, byteAt, written, levelsDone}
+use Rattle.levels.specs.Levels.{LevelsIn, baseAt, lfDelta, areaLevel, lumaOff, level, byteAt, written, levelsDone}
 use Rattle.levels.specs.Helpers.{stores, biasedLevel}
 use Rattle.levels.proofs.Fills.{stores-fill}
 
@@ -44,7 +45,7 @@ unfolding lvlSeg baseFilterLevel
 seg-always true feature l d = refl
 seg-always false feature l d = rw (+ℤ-idr (Clip3 (pos 0) (pos 63) (d +ℤ pos l))) (clip-clip (d +ℤ pos l))
 
--- ---- the sixteen values of a kind
+-- ---- the sixteen values of a area
 
 module _ (x : LevelsIn) (c d f : ℕ) (ed : subℕ d 128 ≡ lfDelta x (c % 4)) (ef : subℕ f 128 ≡ cond (on (x .segmentation)) (delta (x .seg) c) (pos 0)) where
   sixteen : (j : ℕ) → biasedLevel (baseAt x (c % 4)) d f (x .enabled) (x .ref) (x .mode) j
@@ -55,39 +56,39 @@ module _ (x : LevelsIn) (c d f : ℕ) (ed : subℕ d 128 ≡ lfDelta x (c % 4)) 
       rw (ed, ef, e, seg-always (on (x .segmentation)) (delta (x .seg) c) (baseAt x (c % 4)) (lfDelta x (c % 4))) refl
 
   module _ (a : ℕ) (l t : List ℕ) where
-    pub luma-kind : c % 4 < 2 → t ≡ stores (biasedLevel (baseAt x (c % 4)) d f (x .enabled) (x .ref) (x .mode)) a 16 l
-        → t ≡ stores (λ j. kindLevel x (c / 4) (c % 4) (j / 2) (j % 2)) a 16 l
-    unfolding kindLevel
-    luma-kind h p =
+    pub luma-area : c % 4 < 2 → t ≡ stores (biasedLevel (baseAt x (c % 4)) d f (x .enabled) (x .ref) (x .mode)) a 16 l
+        → t ≡ stores (λ j. areaLevel x (c / 4) (c % 4) (j / 2) (j % 2)) a 16 l
+    unfolding areaLevel
+    luma-area h p =
         p ∙ ap (λ (g : ℕ → ℕ). stores g a 16 l) (fun-ext (λ j. rw (le-ltb 1 (c % 4) (omega arith)) (sixteen j)))
 
-    pub chroma-kind : 2 ≤ c % 4
+    pub chroma-area : 2 ≤ c % 4
         → t ≡ stores (λ j. cond (eqb (baseAt x (c % 4)) 0) 0 (biasedLevel (baseAt x (c % 4)) d f (x .enabled) (x .ref) (x .mode) j)) a 16 l
-        → t ≡ stores (λ j. kindLevel x (c / 4) (c % 4) (j / 2) (j % 2)) a 16 l
-    unfolding kindLevel
-    chroma-kind h p =
+        → t ≡ stores (λ j. areaLevel x (c / 4) (c % 4) (j / 2) (j % 2)) a 16 l
+    unfolding areaLevel
+    chroma-area h p =
         p ∙ ap (λ (g : ℕ → ℕ). stores g a 16 l) (fun-ext (λ j. rw (lt-ltb 1 (c % 4) (omega arith), sixteen j) refl))
 
 -- ---- kinds one after another
 
 module _ (x : LevelsIn) where
-  kind-at : lumaOff (x .base) ≡ false → (c j : ℕ) → j < 16 → kindLevel x (c / 4) (c % 4) (j / 2) (j % 2) ≡ byteAt x (16 * c + j)
+  area-at : lumaOff (x .base) ≡ false → (c j : ℕ) → j < 16 → areaLevel x (c / 4) (c % 4) (j / 2) (j % 2) ≡ byteAt x (16 * c + j)
   unfolding level
-  kind-at h c j l =
+  area-at h c j l =
       let s : (16 * c + j) / 64 ≡ c / 4 = omega arith in
       let k : (16 * c + j) / 16 % 4 ≡ c % 4 = omega arith in
       let r : (16 * c + j) / 2 % 8 ≡ j / 2 = omega arith in
       let m : (16 * c + j) % 2 ≡ j % 2 = omega arith in
       rw (h, s, k, r, m) refl
 
-  pub kinds-again : lumaOff (x .base) ≡ false → (c : ℕ) (v t u : List ℕ) → 16 * c + 16 ≤ length v
-      → t ≡ tabulate (byteAt x) (16 * c) ++ drop (16 * c) v → u ≡ stores (λ j. kindLevel x (c / 4) (c % 4) (j / 2) (j % 2)) (16 * c) 16 t
+  pub areas-again : lumaOff (x .base) ≡ false → (c : ℕ) (v t u : List ℕ) → 16 * c + 16 ≤ length v
+      → t ≡ tabulate (byteAt x) (16 * c) ++ drop (16 * c) v → u ≡ stores (λ j. areaLevel x (c / 4) (c % 4) (j / 2) (j % 2)) (16 * c) 16 t
       → u ≡ tabulate (byteAt x) (16 * (c + 1)) ++ drop (16 * (c + 1)) v
-  kinds-again h c v t u l p q =
+  areas-again h c v t u l p q =
       let e : 16 * c + 16 ≡ 16 * (c + 1) = omega arith in
       q
-      ∙ ap (stores (λ j. kindLevel x (c / 4) (c % 4) (j / 2) (j % 2)) (16 * c) 16) p
-      ∙ stores-fill (byteAt x) (λ j. kindLevel x (c / 4) (c % 4) (j / 2) (j % 2)) (16 * c) 16 v l (kind-at h c)
+      ∙ ap (stores (λ j. areaLevel x (c / 4) (c % 4) (j / 2) (j % 2)) (16 * c) 16) p
+      ∙ stores-fill (byteAt x) (λ j. areaLevel x (c / 4) (c % 4) (j / 2) (j % 2)) (16 * c) 16 v l (area-at h c)
       ∙ ap (λ (k : ℕ). tabulate (byteAt x) k ++ drop k v) e
 
   written-is : (n : ℕ) → n ≡ cond (on (x .segmentation)) 32 4 → 16 * n ≡ written x
@@ -97,10 +98,10 @@ module _ (x : LevelsIn) where
       go true = refl
       go false = refl
 
-  pub kinds-done : (n c : ℕ) (v t : List ℕ) → n ≡ cond (on (x .segmentation)) 32 4 → c ≡ n
+  pub areas-done : (n c : ℕ) (v t : List ℕ) → n ≡ cond (on (x .segmentation)) 32 4 → c ≡ n
       → t ≡ tabulate (byteAt x) (16 * c) ++ drop (16 * c) v → t ≡ levelsDone x v
   unfolding levelsDone
-  kinds-done n c v t e g p = p ∙ ap (λ (k : ℕ). tabulate (byteAt x) k ++ drop k v) (written-is c (g ∙ e))
+  areas-done n c v t e g p = p ∙ ap (λ (k : ℕ). tabulate (byteAt x) k ++ drop k v) (written-is c (g ∙ e))
 
   -- ---- no luma level
 

@@ -16,7 +16,7 @@ use Rattle.loops.proofs.Tables.{length-tabulate, getD-tabulate}
 use Rattle.standard.specs.Math.{Clip3}
 use Rattle.standard.specs.Level.{baseFilterLevel, lvlSeg, lvlDelta, filterLevel}
 use Rattle.deltas.specs.Deltas.{on, delta}
-use Rattle.levels.specs.Levels.{LevelsIn, levelsIn, baseAt, lfDelta, kindLevel, lumaOff, level, byteAt, written, levelsDone}
+use Rattle.levels.specs.Levels.{LevelsIn, levelsIn, baseAt, lfDelta, areaLevel, lumaOff, level, byteAt, written, levelsDone}
 use Rattle.levels.specs.Promises.{Place, byte}
 
 -- ---- where a byte lies
@@ -62,7 +62,7 @@ module _ (x : LevelsIn) (s k q m : ℕ) where
   luma-zero e f = rw (eq-eqb (baseAt x 0) 0 e, eq-eqb (baseAt x 1) 0 f) refl
 
   pub chroma-zero : 2 ≤ k → baseAt x k ≡ 0 → level x s k q m ≡ 0
-  unfolding level kindLevel
+  unfolding level areaLevel
   chroma-zero h e = rw (lt-ltb 1 k h, eq-eqb (baseAt x k) 0 e) (either (lumaOff (x .base)) 0)
     where
       either : (b : Bool) (n : ℕ) → cond b n n ≡ n
@@ -72,7 +72,7 @@ module _ (x : LevelsIn) (s k q m : ℕ) where
   pub level-is : (¬ (baseAt x 0 ≡ 0)) ⊎ (¬ (baseAt x 1 ≡ 0)) → (k < 2) ⊎ (¬ (baseAt x k ≡ 0))
       → level x s k q m
       ≡ filterLevel (baseAt x k) (lfDelta x k) (on (x .segmentation)) (delta (x .seg) (s * 4 + k)) (on (x .enabled)) (delta (x .ref)) (delta (x .mode)) q m
-  unfolding level kindLevel
+  unfolding level areaLevel
   level-is f g = rw (luma-on f, chroma-on g) refl
     where
       luma-on : (¬ (baseAt x 0 ≡ 0)) ⊎ (¬ (baseAt x 1 ≡ 0)) → lumaOff (x .base) ≡ false
@@ -83,7 +83,7 @@ module _ (x : LevelsIn) (s k q m : ℕ) where
 
 -- reference 0
 pub modes-alike : (x : LevelsIn) (s k : ℕ) → level x s k 0 0 ≡ level x s k 0 1
-unfolding level kindLevel filterLevel lvlDelta
+unfolding level areaLevel filterLevel lvlDelta
 modes-alike x s k = refl
 
 -- ---- at most 63
@@ -103,7 +103,7 @@ filter-small l d true f false ref mode q m = clip-small _
 filter-small l d false f false ref mode q m = clip-small _
 
 pub level-small : (x : LevelsIn) (s k q m : ℕ) → level x s k q m ≤ 63
-unfolding level kindLevel
+unfolding level areaLevel
 level-small x s k q m = or-zero (lumaOff (x .base)) _ (or-zero (ltb 1 k && eqb (baseAt x k) 0) _ (filter-small _ _ _ _ _ _ _ q m))
   where
     or-zero : (b : Bool) (n : ℕ) → n ≤ 63 → cond b 0 n ≤ 63
@@ -114,7 +114,7 @@ level-small x s k q m = or-zero (lumaOff (x .base)) _ (or-zero (ltb 1 k && eqb (
 
 module _ (base : List ℕ) (enabled : ℕ) (ref mode lf lf′ : List ℤ) (segmentation : ℕ) (seg : List ℤ) (e : delta lf 0 ≡ delta lf′ 0) where
   same-level : (s k q m : ℕ) → level (levelsIn base enabled ref mode 0 lf segmentation seg) s k q m ≡ level (levelsIn base enabled ref mode 0 lf′ segmentation seg) s k q m
-  unfolding level kindLevel
+  unfolding level areaLevel
   same-level s k q m =
       ap (λ (d : ℤ). cond (lumaOff base) 0 (cond (ltb 1 k && eqb (getD base k 0) 0) 0
       (filterLevel (getD base k 0) d (on segmentation) (delta seg (s * 4 + k)) (on enabled) (delta ref) (delta mode) q m))) e

@@ -1,7 +1,7 @@
 -- The level values of a frame: document 01, "Limits and levels", by 7.14.5 of the standard.
 --   LevelsIn, levelsIn         what the values are made of
---   baseAt, lfDelta            the base level and the lf delta of a kind
---   kindLevel x s k r m        the value of segment s, kind k, reference r and mode m
+--   baseAt, lfDelta            the base level and the lf delta of a area
+--   areaLevel x s k r m        the value of segment s, area k, reference r and mode m
 --   lumaOff, level x s k r m   and 0 where both luma bases are 0
 --   byteAt x i                 the value of byte i
 --   written x, levelsDone x l  how many bytes are written, and the 512 bytes l once they are
@@ -23,16 +23,16 @@ use Rattle.units.specs.Layout.{layoutOk}
 use Rattle.deltas.specs.Deltas.{on, delta, outside}
 
 pub record LevelsIn : Type 0 where
-  -- loop_filter_level[ k ], by kind
+  -- loop_filter_level[ k ], by area
   pub base : List ℕ
   -- loop_filter_delta_enabled, loop_filter_ref_deltas, loop_filter_mode_deltas
   pub enabled : ℕ
   pub ref : List ℤ
   pub mode : List ℤ
-  -- delta_lf_multi, and the block's DeltaLF by kind
+  -- delta_lf_multi, and the block's DeltaLF by area
   pub multi : ℕ
   pub lf : List ℤ
-  -- segmentation_enabled, and the level feature of segment s and kind k at s * 4 + k
+  -- segmentation_enabled, and the level feature of segment s and area k at s * 4 + k
   pub segmentation : ℕ
   pub seg : List ℤ
 
@@ -47,8 +47,8 @@ baseAt x k = getD (x .base) k 0
 abbrev pub lfDelta : LevelsIn → ℕ → ℤ
 lfDelta x k = delta (x .lf) (cond (on (x .multi)) k 0)
 
-unfoldable pub kindLevel : LevelsIn → ℕ → ℕ → ℕ → ℕ → ℕ
-kindLevel x s k r m =
+unfoldable pub areaLevel : LevelsIn → ℕ → ℕ → ℕ → ℕ → ℕ
+areaLevel x s k r m =
     cond (ltb 1 k && eqb (baseAt x k) 0) 0
     (filterLevel (baseAt x k) (lfDelta x k) (on (x .segmentation)) (delta (x .seg) (s * 4 + k)) (on (x .enabled)) (delta (x .ref)) (delta (x .mode)) r m)
 
@@ -57,13 +57,13 @@ abbrev pub lumaOff : List ℕ → Bool
 lumaOff base = eqb (getD base 0 0) 0 && eqb (getD base 1 0) 0
 
 unfoldable pub level : LevelsIn → ℕ → ℕ → ℕ → ℕ → ℕ
-level x s k r m = cond (lumaOff (x .base)) 0 (kindLevel x s k r m)
+level x s k r m = cond (lumaOff (x .base)) 0 (areaLevel x s k r m)
 
 -- all segments, or the first alone
 abbrev pub written : LevelsIn → ℕ
 written x = cond (on (x .segmentation)) 512 64
 
--- byte i of [segment][kind][reference][mode]
+-- byte i of [segment][area][reference][mode]
 abbrev pub byteAt : LevelsIn → ℕ → ℕ
 byteAt x i = level x (i / 64) (i / 16 % 4) (i / 2 % 8) (i % 2)
 

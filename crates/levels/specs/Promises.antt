@@ -1,7 +1,7 @@
 -- What document 01 promises of `levels`, as theorems on its contract alone.
 --   LevelFault layout x     what number 2 refuses
---   Place x s k q m         a segment that is written, a kind, a reference and a mode
---   byte l s k q m          the byte at [segment][kind][reference][mode]
+--   Place x s k q m         a segment that is written, a area, a reference and a mode
+--   byte l s k q m          the byte at [segment][area][reference][mode]
 --   Promised                of one answer
 --   Promises                of all
 use mathlib.Core.List.{List}
@@ -27,7 +27,7 @@ pub data LevelFault (layout : ℕ) (x : LevelsIn) : Type 0 where
 pub record Place (x : LevelsIn) (s k q m : ℕ) : Type 0 where
   pub segment : s < 8
   pub in-use : x .segmentation ≡ 0 → s ≡ 0
-  pub kind : k < 4
+  pub area : k < 4
   pub reference : q < 8
   pub mode : m < 2
 

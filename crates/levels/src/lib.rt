@@ -6,7 +6,7 @@ ghost use lib.Dec.{eqb, ltb};
 ghost use lib.ListN.{getD, length};
 ghost use Rattle.loops.specs.Any.{anyBelow};
 ghost use Rattle.deltas.specs.Deltas.{on};
-ghost use Rattle.levels.specs.Levels.{levelsIn, outOfRange, kindLevel, lumaOff, levelsDone, LevelsAnswer};
+ghost use Rattle.levels.specs.Levels.{levelsIn, outOfRange, areaLevel, lumaOff, levelsDone, LevelsAnswer};
 ghost use Rattle.levels.specs.Promises.{Promises};
 ghost use Rattle.levels.specs.Helpers.{stores, biasedLevel};
 use deltas::any_outside;
@@ -107,8 +107,8 @@ fn calc_lf_value_chroma(
     calc_lf_value(values, at, level, lf, seg, enabled, refs, modes);
 }
 
-// segment c / 4, kind c % 4
-fn calc_kind(
+// segment c / 4, area c % 4
+fn calc_area(
     values: &mut [u8],
     c: usize,
     base: &[u8; 4],
@@ -121,7 +121,7 @@ fn calc_kind(
     seg: &[i8; 32],
 )
     requires { ⌜ (c < 32) × (16 * c + 16 ≤ length (now values)) ⌝ }
-    ensures { λ _. ⌜ now (values .exit) ≡ stores (λ j. kindLevel
+    ensures { λ _. ⌜ now (values .exit) ≡ stores (λ j. areaLevel
         (levelsIn (now (base .entry)) enabled (now (refs .entry)) (now (modes .entry)) multi (now (lf .entry)) segmentation (now (seg .entry)))
         (c / 4) (c % 4) (j / 2) (j % 2)) (16 * c) 16 (now (values .entry)) ⌝ }
 {
@@ -142,7 +142,7 @@ fn luma_off(base: &[u8; 4]) -> bool
     (base[0] == 0) & (base[1] == 0)
 }
 
-fn kinds(segmentation: u32) -> usize
+fn areas(segmentation: u32) -> usize
     ensures { λ r. ⌜ (r ≡ cond (on segmentation) 32 4) × (r ≤ 32) ⌝ }
 {
     if segmentation == 0 {
@@ -167,14 +167,14 @@ fn rav1d_calc_lf_values(
         (levelsIn (now (base .entry)) enabled (now (refs .entry)) (now (modes .entry)) multi (now (lf .entry)) segmentation (now (seg .entry)))
         (now (values .entry)) ⌝ }
 {
-    let n = kinds(segmentation);
+    let n = areas(segmentation);
     if luma_off(base) {
         clear(values, 0, 16 * n);
         return;
     }
     let mut c = 0;
     while c < n {
-        calc_kind(
+        calc_area(
             values,
             c,
             base,

@@ -27,21 +27,21 @@ use Rattle.block.specs.Faults.{BlockFault, ContextsFault, LengthFault}
 use Rattle.block.specs.Faults as blocks
 use Rattle.block.proofs.Numbers.{exactly-4 as block-4, exactly-5 as block-5, exactly-0 as block-0}
 use Rattle.record.specs.Record.{intraOf}
-use Rattle.script.specs.declared.Line.{Line}
-use Rattle.script.specs.declared.Line.the-variants.{Frame, Level, Block}
-use Rattle.steps.specs.Steps.{sideOk, depthOk, frameNumber, bases}
+use Rattle.list_script.specs.declared.ScriptLine.{ScriptLine}
+use Rattle.list_script.specs.declared.ScriptLine.the-variants.{Frame, Level, Block}
+use Rattle.list_steps.specs.Steps.{sideOk, depthOk, frameNumber, bases}
 use Rattle.list_numbers.specs.Faults.{DepthFault, ShapeFault, layout-other, width-outside, height-outside, superblock-other}
 use Rattle.list_numbers.specs.Faults.{LevelFault, columns-above, rows-above, u-above, v-above, u-at-400, v-at-400}
 use Rattle.list_numbers.specs.Faults.{Refuses, sharpness-above, level, depth-other, shape, pair-at-400, block}
 
-pub data Judged (f l : Line) : ℕ → Type 0 where
+pub data Judged (f l : ScriptLine) : ℕ → Type 0 where
   clear : ((n : ℕ) → ¬ Refuses f l n) → Judged f l 0
   refuses : {n : ℕ} → Refuses f l n → ((m : ℕ) → m < n → ¬ Refuses f l m) → Judged f l n
 
 -- ---- a frame line
 
-module _ (f : Line) (width height layout depth superblock sharpness : ℕ) where
-  abbrev Line₁ : Line
+module _ (f : ScriptLine) (width height layout depth superblock sharpness : ℕ) where
+  abbrev Line₁ : ScriptLine
   Line₁ = Frame width height layout depth superblock sharpness
 
   frame-faults : {n : ℕ} → Refuses f Line₁ n
@@ -126,7 +126,7 @@ unfolding outside
 at-63 = refl
 
 module _ (width height layout depth superblock sharpness columns rows u v : ℕ) where
-  abbrev First₂ : Line
+  abbrev First₂ : ScriptLine
   First₂ = Frame width height layout depth superblock sharpness
 
   level-is : levels.LevelFault layout (bases columns rows u v) → LevelFault layout columns rows u v
@@ -167,7 +167,7 @@ module _ (width height layout depth superblock sharpness columns rows u v : ℕ)
 -- ---- a block line
 
 module _ (width height layout depth superblock sharpness x y size tx chroma uvtx : ℕ) where
-  abbrev First₃ : Line
+  abbrev First₃ : ScriptLine
   First₃ = Frame width height layout depth superblock sharpness
 
   abbrev b : BlockIn
@@ -177,10 +177,10 @@ module _ (width height layout depth superblock sharpness x y size tx chroma uvtx
   block-faults (pair-at-400 e c) = inl (refl, (e, c))
   block-faults (block f) = inr (refl, f)
 
-  module _ (l : Layout layout) (wide : (1 ≤ width) × (width ≤ 256)) (high : (1 ≤ height) × (height ≤ 256)) where
+  module _ (l : Layout layout) (blockWidth : (1 ≤ width) × (width ≤ 256)) (blockHeight : (1 ≤ height) × (height ≤ 256)) where
     pair-only : blocks.ShapeFault b → (layout ≡ 400) × (¬ (chroma ≡ 0))
     pair-only (blocks.layout-other n) = absurd (n l)
-    pair-only (blocks.size-outside n) = absurd (n ((wide .0, omega arith), (high .0, omega arith)))
+    pair-only (blocks.size-outside n) = absurd (n ((blockWidth .0, omega arith), (blockHeight .0, omega arith)))
     pair-only (blocks.pair-at-400 c e) = (e, reflects-not (reflects-eqb chroma 0) .yes c)
 
     only-pair : layout ≡ 400 → ¬ (chroma ≡ 0) → blocks.ShapeFault b

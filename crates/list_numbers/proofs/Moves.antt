@@ -9,9 +9,9 @@ use Rattle.loops.specs.Table.{tabulate}
 use Rattle.levels.specs.Levels.{byteAt, levelsNumber}
 use Rattle.block.specs.Block.{w4}
 use Rattle.block.specs.Tests.{number}
-use Rattle.script.specs.declared.Line.the-variants.{Frame, Level, Block, Form}
-use Rattle.steps.specs.declared.State.{State}
-use Rattle.steps.specs.Steps.{form, Kept, kept, stateOf, counted, said, frameNumber, framed, bases, levelled, blockOf, atBlock, blocked, taken, stepOf}
+use Rattle.list_script.specs.declared.ScriptLine.the-variants.{Frame, Level, Block, Form}
+use Rattle.list_steps.specs.declared.State.{State}
+use Rattle.list_steps.specs.Steps.{form, Kept, kept, stateOf, counted, said, frameNumber, framed, bases, levelled, blockOf, atBlock, blocked, taken, stepOf}
 
 -- a test of the number n alone: what it chooses has the number n
 numbered : {A : Type 0} (f : A → ℕ) (n : ℕ) (x y : A) → f x ≡ 0 → f y ≡ n → f (cond (eqb n 0) x y) ≡ n

@@ -14,18 +14,18 @@ use Rattle.loops.specs.Exactly.{Exactly}
 use Rattle.loops.specs.Table.{tabulate}
 use Rattle.loops.proofs.Tables.{length-tabulate}
 use Rattle.levels.specs.Levels.{byteAt, levelsDone, LevelsAnswer}
-use Rattle.fields.specs.Fields.{joined}
-use Rattle.fields.specs.Word.{Bytes}
-use Rattle.script.specs.declared.Line.{Line}
-use Rattle.script.specs.declared.Line.the-variants.{Frame, Level, Block, Form}
-use Rattle.script.specs.Script.{space}
-use Rattle.script.specs.Promises.{Says, frame, level, block}
-use Rattle.text.specs.Text.{end, refusedText, formText}
-use Rattle.steps.specs.Steps.{form, Kept, bases, blockOf, stepOf}
-use Rattle.listing.specs.Listing.{push, linesOf, start, after, textIn, outputOf}
-use Rattle.listing.specs.Promises.{Stops}
-use Rattle.listing.proofs.Runs.{unrefused, stops}
-use Rattle.listing.proofs.Lefts.{left}
+use Rattle.list_fields.specs.Fields.{joined}
+use Rattle.list_fields.specs.Word.{Bytes}
+use Rattle.list_script.specs.declared.ScriptLine.{ScriptLine}
+use Rattle.list_script.specs.declared.ScriptLine.the-variants.{Frame, Level, Block, Form}
+use Rattle.list_script.specs.Script.{space}
+use Rattle.list_script.specs.Promises.{Says, frame, level, block}
+use Rattle.list_text.specs.Text.{end, refusedText, formText}
+use Rattle.list_steps.specs.Steps.{form, Kept, bases, blockOf, stepOf}
+use Rattle.list_call.specs.Listing.{push, linesOf, start, after, textIn, outputOf}
+use Rattle.list_call.specs.Promises.{Stops}
+use Rattle.list_call.proofs.Runs.{unrefused, stops}
+use Rattle.list_call.proofs.PartLeft.{left}
 use Rattle.list_numbers.specs.Faults.{FormFault, no-line, Refuses, sharpness-above, level, depth-other, shape, pair-at-400, block, Fault, Sound}
 use Rattle.list_numbers.specs.Promises.{NoForm, faulty, missing, Formless, Refused, Whole, listOf, Ends, formless, refused, whole, Keeps, Promises}
 use Rattle.list_numbers.proofs.Texts.{refused-same, form-same, form-refused, list-refused, list-form}
@@ -50,7 +50,7 @@ line-bytes (c ∷ s) b j = go (eqb c end) (linesOf s) (line-bytes s (λ i. b (su
 
 -- ---- faults
 
-refuses-low : {f l : Line} {n : ℕ} → Refuses f l n → (1 ≤ n) × (n ≤ 5)
+refuses-low : {f l : ScriptLine} {n : ℕ} → Refuses f l n → (1 ≤ n) × (n ≤ 5)
 refuses-low (sharpness-above h) = omega arith
 refuses-low (level h) = omega arith
 refuses-low (depth-other h) = omega arith
@@ -58,7 +58,7 @@ refuses-low (shape h) = omega arith
 refuses-low (pair-at-400 e c) = omega arith
 refuses-low (block f) = omega arith
 
-some-byte : (fs : List (List ℕ)) (l : Line) → Says fs l → ¬ (joined space fs ≡ [])
+some-byte : (fs : List (List ℕ)) (l : ScriptLine) → Says fs l → ¬ (joined space fs ≡ [])
 some-byte fs l (frame a b c d e f) q = let z = ap length q in omega arith
 some-byte fs l (level a b c d) q = let z = ap length q in omega arith
 some-byte fs l (block a b c d e f g h) q = let z = ap length q in omega arith
@@ -119,7 +119,7 @@ module _ {ls : List (List ℕ)} where
 
 -- ---- what lines say
 
-abbrev ofFrame : (ℕ → ℕ → ℕ → ℕ) → Line → ℕ
+abbrev ofFrame : (ℕ → ℕ → ℕ → ℕ) → ScriptLine → ℕ
 ofFrame g (Frame a b c d e f) = g a b c
 ofFrame g (Level a b c d) = 0
 ofFrame g (Block a b c d e f) = 0
@@ -147,7 +147,7 @@ module _ (ls : List (List ℕ)) (bytes : (j : ℕ) → Bytes (getD ls j [])) whe
         phase = refl;
         frame = λ h. absurd (omega arith);
         values = λ _ _ _ _ h. absurd (omega arith);
-        proper = record { wide = λ h. absurd (omega arith); high = λ h. absurd (omega arith); layout = λ h. absurd (omega arith) };
+        proper = record { width = λ h. absurd (omega arith); height = λ h. absurd (omega arith); layout = λ h. absurd (omega arith) };
         room = start-room;
       }
 
@@ -184,8 +184,8 @@ module _ (ls : List (List ℕ)) (bytes : (j : ℕ) → Bytes (getD ls j [])) whe
         room = λ x y size tx chroma uvtx p.
             let k = after start (take j ls) in
             let b = blockOf (k .state) x y size tx chroma uvtx in
-            let w = r .proper .wide (omega (arith, r .phase)) .1 in
-            let v = r .proper .high (omega (arith, r .phase)) .1 in
+            let w = r .proper .width (omega (arith, r .phase)) .1 in
+            let v = r .proper .height (omega (arith, r .phase)) .1 in
             (no-6 b (k .memory) (r .room) w v, no-7 b (k .memory) (r .room) w v);
       }
 

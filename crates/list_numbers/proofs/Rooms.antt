@@ -14,18 +14,18 @@ use Rattle.standard.specs.Sizes.{Tx_Wide, Tx_High}
 use Rattle.units.specs.Units.{chromaUnits}
 use Rattle.units.specs.Sizes.{chromaClass}
 use Rattle.block.specs.declared.Block.{Block}
-use Rattle.block.specs.Block.{w4, h4, ssx, ssy, bw4, bh4, cbw4, cbh4, seesLuma, seesChroma, Lent}
+use Rattle.block.specs.Block.{w4, h4, ss-hor, ss-ver, bw4, bh4, cbw4, cbh4, seesLuma, seesChroma, Lent}
 use Rattle.block.specs.Faults.{ContextFault, fewer, above-range, ContextsFault, above, left, above-uv, left-uv, LengthFault, stride-below, levels-short, masks-short}
 use Rattle.mask_edges.specs.Recording.{Contexts}
 use Rattle.mask_edges.specs.Recording as recording
 use Rattle.record.specs.Recorded.{Stored, lumaBlock, chromaBlock}
-use Rattle.script.specs.declared.Line.{Line}
-use Rattle.script.specs.declared.Line.the-variants.{Frame, Level, Block as BlockLine, Form}
-use Rattle.steps.specs.declared.State.{State}
-use Rattle.steps.specs.Steps.{Kept, said, blockOf, cx, cy, atBlock, stepOf}
-use Rattle.steps.specs.Promises.{Alike, Before}
-use Rattle.steps.proofs.Outcomes.{promises as steps}
-use Rattle.listing.specs.Listing.{start}
+use Rattle.list_script.specs.declared.ScriptLine.{ScriptLine}
+use Rattle.list_script.specs.declared.ScriptLine.the-variants.{Frame, Level, Block as BlockLine, Form}
+use Rattle.list_steps.specs.declared.State.{State}
+use Rattle.list_steps.specs.Steps.{Kept, said, blockOf, cx, cy, atBlock, stepOf}
+use Rattle.list_steps.specs.Promises.{Alike, Before}
+use Rattle.list_steps.proofs.Outcomes.{promises as steps}
+use Rattle.list_call.specs.Listing.{start}
 
 pub record Context (most : ℕ) (c : List ℕ) : Type 0 where
   pub long : length c ≡ 64
@@ -134,7 +134,7 @@ module _ (s : State) (x y size tx chroma uvtx : ℕ) (m n : Lent) (r : Room m) w
 same-room : {m n : Lent} → n ≡ m → Room m → Room n
 same-room e r = subst Room (sym e) r
 
-abbrev isBlock : Line → ℕ
+abbrev isBlock : ScriptLine → ℕ
 isBlock (Frame a b c d e f) = 0
 isBlock (Level a b c d) = 0
 isBlock (BlockLine a b c d e f) = 1
@@ -143,10 +143,10 @@ isBlock Form = 0
 pub step-room : (k : Kept) (s : List ℕ) → k .state .number ≡ 0 → Room (k .memory) → Room (stepOf k s .memory)
 step-room k s z r = by-cases (ℕ-discrete (stepOf k s .state .number) 0) (λ e. go (said s) refl e) (λ f. same-room (steps .refused k s f) r)
   where
-    other : (l : Line) → isBlock l ≡ 0 → said s ≡ l → Room (stepOf k s .memory)
+    other : (l : ScriptLine) → isBlock l ≡ 0 → said s ≡ l → Room (stepOf k s .memory)
     other l h e = same-room (steps .keeps k s (λ x y size tx chroma uvtx p. let q = ap isBlock (sym e ∙ p) in omega arith)) r
 
-    go : (l : Line) → said s ≡ l → stepOf k s .state .number ≡ 0 → Room (stepOf k s .memory)
+    go : (l : ScriptLine) → said s ≡ l → stepOf k s .state .number ≡ 0 → Room (stepOf k s .memory)
     go (Frame a b c d f g) e i = other (Frame a b c d f g) refl e
     go (Level a b c d) e i = other (Level a b c d) refl e
     go (BlockLine x y size tx chroma uvtx) e i =
@@ -167,27 +167,27 @@ chroma-most : (ss w : ℕ) → ss ≤ 1 → w ≤ 64 → chromaUnits ss w ≤ 64
 chroma-most ss w s h =
     by-cases (ℕ-discrete ss 0) (λ e. rw e (omega arith)) (λ n. let e : ss ≡ 1 = omega arith in rw e (omega arith))
 
-module _ (b : Block) (m : Lent) (r : Room m) (wide : b .width .0 ≤ 256) (high : b .height .0 ≤ 256) where
+module _ (b : Block) (m : Lent) (r : Room m) (blockWidth : b .width .0 ≤ 256) (blockHeight : b .height .0 ≤ 256) where
   w-most : w4 b ≤ 64
   w-most = omega arith
 
   h-most : h4 b ≤ 64
   h-most = omega arith
 
-  ssx-low : ssx b ≤ 1
-  ssx-low = either-low (eqb (b .layout) 444) 0 1 1 (omega arith) (omega arith)
+  ss-hor-low : ss-hor b ≤ 1
+  ss-hor-low = either-low (eqb (b .layout) 444) 0 1 1 (omega arith) (omega arith)
 
-  ssy-low : ssy b ≤ 1
-  ssy-low = either-low (eqb (b .layout) 420) 1 0 1 (omega arith) (omega arith)
+  ss-ver-low : ss-ver b ≤ 1
+  ss-ver-low = either-low (eqb (b .layout) 420) 1 0 1 (omega arith) (omega arith)
 
   pub no-6 : ¬ ContextsFault b (atBlock b m)
   unfolding bw4 bh4 cbw4 cbh4
   no-6 (above p f) = context-fine (bw4 b) 2 (b .x .0) (m .above) (r .above) (p .0) (along (w4 b) (b .x .0) _ w-most (p .0)) f
   no-6 (left p f) = context-fine (bh4 b) 2 (b .y .0) (m .left) (r .left) (p .1) (along (h4 b) (b .y .0) _ h-most (p .1)) f
   no-6 (above-uv c p f) =
-      context-fine (cbw4 b) 1 (cx b) (m .above-uv) (r .above-uv) (p .0) (along (chromaUnits (ssx b) (w4 b)) (cx b) _ (chroma-most (ssx b) (w4 b) ssx-low w-most) (p .0)) f
+      context-fine (cbw4 b) 1 (cx b) (m .above-uv) (r .above-uv) (p .0) (along (chromaUnits (ss-hor b) (w4 b)) (cx b) _ (chroma-most (ss-hor b) (w4 b) ss-hor-low w-most) (p .0)) f
   no-6 (left-uv c p f) =
-      context-fine (cbh4 b) 1 (cy b) (m .left-uv) (r .left-uv) (p .1) (along (chromaUnits (ssy b) (h4 b)) (cy b) _ (chroma-most (ssy b) (h4 b) ssy-low h-most) (p .1)) f
+      context-fine (cbh4 b) 1 (cy b) (m .left-uv) (r .left-uv) (p .1) (along (chromaUnits (ss-ver b) (h4 b)) (cy b) _ (chroma-most (ss-ver b) (h4 b) ss-ver-low h-most) (p .1)) f
 
   pub no-7 : ¬ LengthFault b (w4 b) (atBlock b m)
   no-7 (stride-below h) = omega arith

@@ -9,10 +9,10 @@ use native.Mathlib.Omega.{arith}
 use borrow.Author.Tests.{le-leb}
 use lib.ListN.{getD, drop}
 use Rattle.loops.proofs.Bools.{both-true}
-use Rattle.decimal.specs.Decimal.{isDigit, digits, value, decimal}
-use Rattle.decimal.proofs.Numerals.{decimal-one, decimal-more}
-use Rattle.text.specs.Text.{tab, end, refused, fieldText, refusedText, formText}
-use Rattle.listed.specs.Listed.{Held, listText}
+use Rattle.list_decimal.specs.Decimal.{isDigit, digits, value, decimal}
+use Rattle.list_decimal.proofs.Numerals.{decimal-one, decimal-more}
+use Rattle.list_text.specs.Text.{tab, end, refused, fieldText, refusedText, formText}
+use Rattle.list_edges.specs.Listed.{Held, listText}
 
 -- ---- the digits of a number
 

@@ -11,17 +11,18 @@ use Rattle.loops.specs.Table.{tabulate}
 use Rattle.units.specs.Layout.{Layout}
 use Rattle.units.proofs.Tests.{reflects-layout}
 use Rattle.levels.specs.Levels.{byteAt}
-use Rattle.fields.specs.Word.{Bytes}
-use Rattle.script.specs.declared.Line.{Line}
-use Rattle.script.specs.declared.Line.the-variants.{Frame, Level, Block, Form}
-use Rattle.script.specs.Promises.{Says}
-use Rattle.script.proofs.Said.{promises as scripts}
-use Rattle.steps.specs.declared.State.{State}
-use Rattle.steps.specs.Steps.{form, longest, Kept, said, bases, blockOf, atBlock, stepOf}
-use Rattle.steps.specs.Promises.{Proper}
-use Rattle.steps.proofs.Outcomes.{promises as steps}
+use Rattle.list_fields.specs.Word.{Bytes}
+use Rattle.list_script.specs.declared.ScriptLine.{ScriptLine}
+use Rattle.list_script.specs.declared.ScriptLine.the-variants.{Frame, Level, Block, Form}
+use Rattle.list_script.specs.Promises.{Says}
+use Rattle.list_script.proofs.LinesSaid.{promises as scripts}
+use Rattle.list_steps.specs.declared.State.{State}
+use Rattle.list_steps.specs.Steps.{form, longest, Kept, said, bases, blockOf, atBlock, stepOf}
+use Rattle.list_steps.specs.Promises.{Proper}
+use Rattle.list_steps.proofs.Outcomes.{promises as steps}
 use Rattle.list_numbers.specs.Faults.{At, InTurn, FormFault, too-long, no-line, out-of-turn, Refuses, Fault, Sound}
-use Rattle.list_numbers.proofs.Moves.{form-number, frame-late, frame-number, frame-state, level-late, level-number, level-state, level-values, block-late, block-number, block-state, block-values}
+use Rattle.list_numbers.proofs.Moves.{form-number, frame-late, frame-number, frame-state, level-late, level-number, level-state, level-values}
+use Rattle.list_numbers.proofs.Moves.{block-late, block-number, block-state, block-values}
 use Rattle.list_numbers.proofs.Rooms.{Room, step-room, no-6, no-7}
 use Rattle.list_numbers.proofs.Judged.{Judged, clear, refuses, frame-judged, level-judged, block-judged}
 
@@ -31,7 +32,7 @@ pub data Verdict (ls : List (List ℕ)) (j : ℕ) : ℕ → Type 0 where
   refused : {n : ℕ} → ¬ FormFault ls j → Fault ls j n → ((m : ℕ) → m < n → ¬ Fault ls j m) → Verdict ls j n
 
 -- the level values of a level line
-abbrev valuesOf : Line → List ℕ
+abbrev valuesOf : ScriptLine → List ℕ
 valuesOf (Frame a b c d e f) = []
 valuesOf (Level a b c d) = tabulate (byteAt (bases a b c d)) 64
 valuesOf (Block a b c d e f) = []
@@ -43,13 +44,13 @@ no-form fs = elim [ ]
 module _ (ls : List (List ℕ)) (bytes : (j : ℕ) → Bytes (getD ls j [])) where
   -- ---- what a line says
 
-  pub same-line : {j : ℕ} {l m : Line} → At ls j l → At ls j m → l ≡ m
+  pub same-line : {j : ℕ} {l m : ScriptLine} → At ls j l → At ls j m → l ≡ m
   same-line {j} {l} {m} a b =
       scripts .unique (getD ls j []) l m (bytes j) (inl (a .fields, a .says, a .is)) (inl (b .fields, b .says, b .is))
 
   data Told (j : ℕ) : Type 0 where
     nothing : said (getD ls j []) ≡ Form → FormFault ls j → Told j
-    something : {l : Line} → said (getD ls j []) ≡ l → length (getD ls j []) ≤ longest → At ls j l → Told j
+    something : {l : ScriptLine} → said (getD ls j []) ≡ l → length (getD ls j []) ≤ longest → At ls j l → Told j
 
   told : (j : ℕ) → Told j
   unfolding said
@@ -65,16 +66,16 @@ module _ (ls : List (List ℕ)) (bytes : (j : ℕ) → Bytes (getD ls j [])) whe
 
   -- ---- a line that is judged
 
-  module _ {j : ℕ} {f l : Line} (first : At ls 0 f) (line : At ls j l) (short : length (getD ls j []) ≤ longest) (turn : InTurn l j) where
+  module _ {j : ℕ} {f l : ScriptLine} (first : At ls 0 f) (line : At ls j l) (short : length (getD ls j []) ≤ longest) (turn : InTurn l j) where
     well-formed : ¬ FormFault ls j
     well-formed (too-long h) = omega arith
     well-formed (no-line n) = n l line
-    well-formed (out-of-turn a n) = n (subst (λ (m : Line). InTurn m j) (same-line line a) turn)
+    well-formed (out-of-turn a n) = n (subst (λ (m : ScriptLine). InTurn m j) (same-line line a) turn)
 
     fault-of : {n : ℕ} → Fault ls j n → Refuses f l n
     fault-of {n} r =
-        subst (λ (g : Line). Refuses g l n) (same-line (r .first-is) first)
-        (subst (λ (m : Line). Refuses (r .first) m n) (same-line (r .line-is) line) (r .refuses))
+        subst (λ (g : ScriptLine). Refuses g l n) (same-line (r .first-is) first)
+        (subst (λ (m : ScriptLine). Refuses (r .first) m n) (same-line (r .line-is) line) (r .refuses))
 
     judged : {n : ℕ} → Judged f l n → Verdict ls j n
     judged (clear c) = sound (well-formed, λ n r. c n (fault-of r))
@@ -107,10 +108,10 @@ module _ (ls : List (List ℕ)) (bytes : (j : ℕ) → Bytes (getD ls j [])) whe
     pub verdict : Verdict ls j (stepOf k s .state .number)
     verdict = go (told j)
       where
-        late : {l : Line} → At ls j l → stepOf k s .state .number ≡ form → ¬ InTurn l j → Verdict ls j (stepOf k s .state .number)
+        late : {l : ScriptLine} → At ls j l → stepOf k s .state .number ≡ form → ¬ InTurn l j → Verdict ls j (stepOf k s .state .number)
         late a e n = rw e (formless (out-of-turn a n))
 
-        of : (l : Line) → said s ≡ l → length s ≤ longest → At ls j l → Verdict ls j (stepOf k s .state .number)
+        of : (l : ScriptLine) → said s ≡ l → length s ≤ longest → At ls j l → Verdict ls j (stepOf k s .state .number)
         of (Frame a b c d e f) q h at =
             by-cases (ℕ-discrete j 0)
             (λ z. rw (frame-number k s (r .number) q (omega (arith, r .phase))) (judged (subst (λ (i : ℕ). At ls i (Frame a b c d e f)) z at) at h z (frame-judged _ a b c d e f)))
@@ -127,8 +128,8 @@ module _ (ls : List (List ℕ)) (bytes : (j : ℕ) → Bytes (getD ls j [])) whe
             (λ z.
             let f = r .frame (omega arith) in
             let b = blockOf (k .state) x y size tx chroma uvtx in
-            let w = r .proper .wide (omega (arith, r .phase)) in
-            let v = r .proper .high (omega (arith, r .phase)) in
+            let w = r .proper .width (omega (arith, r .phase)) in
+            let v = r .proper .height (omega (arith, r .phase)) in
             rw (block-number k s (r .number) q (omega (arith, r .phase)))
             (judged (f .is) at h z
             (block-judged (k .state .width) (k .state .height) (k .state .layout) (f .depth) (f .superblock) (f .sharpness) x y size tx chroma uvtx
@@ -160,7 +161,7 @@ module _ (ls : List (List ℕ)) (bytes : (j : ℕ) → Bytes (getD ls j [])) whe
         never : stepOf k s .state .number ≡ form → Reached (suc j) (stepOf k s)
         never e = absurd (omega arith)
 
-        of : (l : Line) → said s ≡ l → At ls j l → Reached (suc j) (stepOf k s)
+        of : (l : ScriptLine) → said s ≡ l → At ls j l → Reached (suc j) (stepOf k s)
         of (Frame a b c d e f) q at =
             by-cases (ℕ-discrete (k .state .phase) 0)
             (λ p.

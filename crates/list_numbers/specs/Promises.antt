@@ -17,12 +17,12 @@ use Rattle.loops.specs.Exactly.{Exactly}
 use Rattle.levels.specs.Levels.{LevelsAnswer}
 use Rattle.block.specs.Block.{w4}
 use Rattle.block.specs.Faults.{ContextsFault, LengthFault}
-use Rattle.fields.specs.Word.{Bytes}
-use Rattle.script.specs.declared.Line.the-variants.{Frame, Level}
-use Rattle.text.specs.Text.{refusedText, formText}
-use Rattle.listed.specs.Listed.{listText}
-use Rattle.steps.specs.Steps.{Kept, bases, blockOf, atBlock}
-use Rattle.listing.specs.Listing.{linesOf, start, after, heldIn, outputOf}
+use Rattle.list_fields.specs.Word.{Bytes}
+use Rattle.list_script.specs.declared.ScriptLine.the-variants.{Frame, Level}
+use Rattle.list_text.specs.Text.{refusedText, formText}
+use Rattle.list_edges.specs.Listed.{listText}
+use Rattle.list_steps.specs.Steps.{Kept, bases, blockOf, atBlock}
+use Rattle.list_call.specs.Listing.{linesOf, start, after, heldIn, outputOf}
 use Rattle.list_numbers.specs.Faults.{At, FormFault, Fault, Sound}
 
 -- a line that is there, or the line that is missing where the script ends before its level line

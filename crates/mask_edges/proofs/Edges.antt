@@ -18,7 +18,7 @@ use Rattle.bits.proofs.Marks.{adds-mark, adds-then, adds-upTo, adds-marks}
 use Rattle.mask_edges.specs.Recording.{Sweep, classBefore, classAt, edges}
 use Rattle.mask_edges.specs.Folds.{blockEdge, stepEdges, walk, lineEdges, gridPass, cellPass}
 use Rattle.mask_edges.proofs.Halves.{reflects-same}
-use Rattle.mask_edges.proofs.Turns.{stepping}
+use Rattle.mask_edges.proofs.LoopTurns.{stepping}
 use Rattle.mask_edges.proofs.Tiles.{Tiles, within, next, none}
 
 adds-as : (n : ℕ) (g : List ℕ → List ℕ) (P Q : ℕ → Bool) → ((e : ℕ) → P e ≡ Q e) → Adds n g P → Adds n g Q

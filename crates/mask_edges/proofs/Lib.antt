@@ -1,11 +1,11 @@
 pub mod Words
 pub mod Halves
 pub mod Contexts
-pub mod Turns
+pub mod LoopTurns
 pub mod Walks
-pub mod Asks
+pub mod BlockPasses
 pub mod Tiles
-pub mod Tells
+pub mod CellTables
 pub mod Edges
 pub mod Theorems
 pub mod Whole

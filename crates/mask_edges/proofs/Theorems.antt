@@ -20,8 +20,8 @@ use Rattle.mask_edges.specs.Recording.{Room, Block, Sweep, columns, rows
 use Rattle.mask_edges.specs.Folds.{edgeBit, classes, stores, columnsOf, rowsOf, gridMasks, cellMasks, tables, interMasks, lastRow, lastColumn}
 use Rattle.mask_edges.specs.Promises.{Promises}
 use Rattle.mask_edges.proofs.Words.{bit-in}
-use Rattle.mask_edges.proofs.Asks.{halves, chroma-low}
-use Rattle.mask_edges.proofs.Tells.{Reads, luma-low, tables-columns, tables-rows}
+use Rattle.mask_edges.proofs.BlockPasses.{halves, chroma-low}
+use Rattle.mask_edges.proofs.CellTables.{Reads, luma-low, tables-columns, tables-rows}
 use Rattle.mask_edges.proofs.Contexts.{stores-in, stores-out}
 use Rattle.mask_edges.proofs.Edges.{adds-grid, adds-cells}
 
@@ -52,34 +52,34 @@ fits chroma half pass unit place across along n hp hh hu hq hn u k v lu lk lv =
 
 -- both passes of a plane; ss 0 for luma
 abbrev pub bitsOf : Bool → ℕ → ℕ → ℕ → ℕ → ℕ → ℕ → ℕ
-bitsOf chroma hor ver zero = edgeBit chroma (halfUnits ver) 0
-bitsOf chroma hor ver (suc pass) = edgeBit chroma (halfUnits hor) 1
+bitsOf chroma ss-hor ss-ver zero = edgeBit chroma (halfUnits ss-ver) 0
+bitsOf chroma ss-hor ss-ver (suc pass) = edgeBit chroma (halfUnits ss-hor) 1
 
-module _ (by4 bx4 w4 h4 hor ver : ℕ) (a l ms : List ℕ) (r : Room by4 bx4 w4 h4 hor ver (length ms) (length a) (length l)) (sh : hor ≤ 1) (sv : ver ≤ 1) where
-  fits-columns : (chroma : Bool) (u k v : ℕ) → u < w4 → k < classes chroma → v < h4 → bitsOf chroma hor ver 0 (bx4 + u) k (by4 + v) / 16 < length ms
+module _ (by4 bx4 w4 h4 ss-hor ss-ver : ℕ) (a l ms : List ℕ) (r : Room by4 bx4 w4 h4 ss-hor ss-ver (length ms) (length a) (length l)) (sh : ss-hor ≤ 1) (sv : ss-ver ≤ 1) where
+  fits-columns : (chroma : Bool) (u k v : ℕ) → u < w4 → k < classes chroma → v < h4 → bitsOf chroma ss-hor ss-ver 0 (bx4 + u) k (by4 + v) / 16 < length ms
   fits-columns chroma =
-      let h = halves hor sh in
-      fits chroma (halfUnits ver) 0 bx4 by4 w4 h4 (length ms) (omega arith) (halves ver sv .1) (omega (arith, r .wide .1)) (r .high .1) (r .record-words)
+      let h = halves ss-hor sh in
+      fits chroma (halfUnits ss-ver) 0 bx4 by4 w4 h4 (length ms) (omega arith) (halves ss-ver sv .1) (omega (arith, r .width .1)) (r .height .1) (r .record-words)
 
-  fits-rows : (chroma : Bool) (u k v : ℕ) → u < h4 → k < classes chroma → v < w4 → bitsOf chroma hor ver 1 (by4 + u) k (bx4 + v) / 16 < length ms
+  fits-rows : (chroma : Bool) (u k v : ℕ) → u < h4 → k < classes chroma → v < w4 → bitsOf chroma ss-hor ss-ver 1 (by4 + u) k (bx4 + v) / 16 < length ms
   fits-rows chroma =
-      let h = halves ver sv in
-      fits chroma (halfUnits hor) 1 by4 bx4 h4 w4 (length ms) (omega arith) (halves hor sh .1) (omega (arith, r .high .1)) (r .wide .1) (r .record-words)
+      let h = halves ss-ver sv in
+      fits chroma (halfUnits ss-hor) 1 by4 bx4 h4 w4 (length ms) (omega arith) (halves ss-hor sh .1) (omega (arith, r .height .1)) (r .width .1) (r .record-words)
 
   module _ (chroma : Bool) (class : ℕ → ℕ) (low : (n : ℕ) → class n < classes chroma) (skip : Bool) (t : ℕ) (c : t < 19) where
     unfoldable pub B : Block
     B = blockOf class (not skip) (λ _ _. t) by4 bx4 w4 h4 a l
 
-    pub one-recorded : Recorded B (bitsOf chroma hor ver) ms
-        (gridMasks (columnsOf chroma (halfUnits ver) by4 bx4 w4 h4) (rowsOf chroma (halfUnits hor) by4 bx4 w4 h4) class t skip a l ms)
+    pub one-recorded : Recorded B (bitsOf chroma ss-hor ss-ver) ms
+        (gridMasks (columnsOf chroma (halfUnits ss-ver) by4 bx4 w4 h4) (rowsOf chroma (halfUnits ss-hor) by4 bx4 w4 h4) class t skip a l ms)
     unfolding gridMasks B
     one-recorded =
         let w = tx-rule t c in
-        recorded B (bitsOf chroma hor ver) ms _ _
-        (adds-grid (columns B) (bitsOf chroma hor ver 0) (length ms) (classes chroma) low (r .wide .0) (fits-columns chroma) (Tx_Wide t) (λ _ _. refl)
-        (w .wide .low) skip refl)
-        (adds-grid (rows B) (bitsOf chroma hor ver 1) (length ms) (classes chroma) low (r .high .0) (fits-rows chroma) (Tx_High t) (λ _ _. refl)
-        (w .high .low) skip refl)
+        recorded B (bitsOf chroma ss-hor ss-ver) ms _ _
+        (adds-grid (columns B) (bitsOf chroma ss-hor ss-ver 0) (length ms) (classes chroma) low (r .width .0) (fits-columns chroma) (Tx_Wide t) (λ _ _. refl)
+        (w .width .low) skip refl)
+        (adds-grid (rows B) (bitsOf chroma ss-hor ss-ver 1) (length ms) (classes chroma) low (r .height .0) (fits-rows chroma) (Tx_High t) (λ _ _. refl)
+        (w .height .low) skip refl)
 
     one-contexts : Contexts B (stores w4 (λ _. class (Tx_High t)) a) (stores h4 (λ _. class (Tx_Wide t)) l)
     unfolding B
@@ -106,10 +106,10 @@ module _ (by4 bx4 w4 h4 : ℕ) (skip : Bool) (t : ℕ) (tx-masks a l ms : List �
   unfolding cellMasks I
   inter-recorded =
       recorded I (bitsOf false 0 0) ms _ _
-      (adds-cells (columns I) (bitsOf false 0 0 0) (length ms) 3 luma-low (r .wide .0)
+      (adds-cells (columns I) (bitsOf false 0 0 0) (length ms) 3 luma-low (r .width .0)
       (fits-columns by4 bx4 w4 h4 0 0 a l ms r (omega arith) (omega arith) false) _ _
       (across .tiles) (across .class) (across .step) skip refl)
-      (adds-cells (rows I) (bitsOf false 0 0 1) (length ms) 3 luma-low (r .high .0)
+      (adds-cells (rows I) (bitsOf false 0 0 1) (length ms) 3 luma-low (r .height .0)
       (fits-rows by4 bx4 w4 h4 0 0 a l ms r (omega arith) (omega arith) false) _ _
       (down .tiles) (down .class) (down .step) skip refl)
 
@@ -117,8 +117,8 @@ module _ (by4 bx4 w4 h4 : ℕ) (skip : Bool) (t : ℕ) (tx-masks a l ms : List �
   unfolding I
   inter-contexts =
       record {
-        above-is = taken (rows I) (lastRow tx-masks t w4 h4) a (r .above-units) (λ v q. down .class (h4 - 1) v (omega (arith, r .high .0)) q) (λ v. refl);
-        left-is = taken (columns I) (lastColumn tx-masks t w4 h4) l (r .left-units) (λ v q. across .class (w4 - 1) v (omega (arith, r .wide .0)) q)
+        above-is = taken (rows I) (lastRow tx-masks t w4 h4) a (r .above-units) (λ v q. down .class (h4 - 1) v (omega (arith, r .height .0)) q) (λ v. refl);
+        left-is = taken (columns I) (lastColumn tx-masks t w4 h4) l (r .left-units) (λ v q. across .class (w4 - 1) v (omega (arith, r .width .0)) q)
             (λ v. refl);
       }
 
@@ -127,9 +127,9 @@ luma-bits : (B : Block) (ms ms′ : List ℕ) → Recorded B (bitsOf false 0 0) 
 unfolding edgeBit lumaBit
 luma-bits B ms ms′ R = record { long = R .long; bits = R .bits }
 
-chroma-bits : (hor ver : ℕ) (B : Block) (ms ms′ : List ℕ) → Recorded B (bitsOf true hor ver) ms ms′ → Recorded B (chromaBits hor ver) ms ms′
+chroma-bits : (ss-hor ss-ver : ℕ) (B : Block) (ms ms′ : List ℕ) → Recorded B (bitsOf true ss-hor ss-ver) ms ms′ → Recorded B (chromaBits ss-hor ss-ver) ms ms′
 unfolding edgeBit chromaBit
-chroma-bits hor ver B ms ms′ R = record { long = R .long; bits = R .bits }
+chroma-bits ss-hor ss-ver B ms ms′ R = record { long = R .long; bits = R .bits }
 
 pub promises : Promises
 unfolding B I
@@ -141,8 +141,8 @@ promises =
       );
       inter = λ by4 bx4 w4 h4 skip t tx-masks a l ms r c.
           (luma-bits _ _ _ (inter-recorded by4 bx4 w4 h4 skip t tx-masks a l ms r c), inter-contexts by4 bx4 w4 h4 skip t tx-masks a l ms r c);
-      chroma = λ by4 bx4 w4 h4 skip t hor ver a l ms r c sh sv. (
-        chroma-bits hor ver _ _ _ (one-recorded by4 bx4 w4 h4 hor ver a l ms r sh sv true chromaClass chroma-low skip t c),
-        one-contexts by4 bx4 w4 h4 hor ver a l ms r sh sv true chromaClass chroma-low skip t c,
+      chroma = λ by4 bx4 w4 h4 skip t ss-hor ss-ver a l ms r c sh sv. (
+        chroma-bits ss-hor ss-ver _ _ _ (one-recorded by4 bx4 w4 h4 ss-hor ss-ver a l ms r sh sv true chromaClass chroma-low skip t c),
+        one-contexts by4 bx4 w4 h4 ss-hor ss-ver a l ms r sh sv true chromaClass chroma-low skip t c,
       );
     }

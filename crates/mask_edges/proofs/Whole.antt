@@ -19,10 +19,10 @@ use Rattle.standard.specs.Sizes.{Tx_Wide, Tx_High}
 use Rattle.units.specs.Sizes.{lumaClass}
 use Rattle.decomp.specs.Cells.{Covers}
 use Rattle.decomp.specs.Split.{isSplit, txAt}
-use Rattle.mask_edges.specs.declared.edge.Pass.{Pass}
+use Rattle.mask_edges.specs.declared.edge.BlockPass.{BlockPass}
 use Rattle.mask_edges.specs.Recording.{Room, Sweep, classAt, edges}
 use Rattle.mask_edges.specs.Folds.{blockEdge, stepEdges, walk, lineEdges, stores, gridPass, cellPass, gridMasks, cellMasks, oneMasks, interMasks, lastRow, lastColumn, wholeBy}
-use Rattle.mask_edges.proofs.Tells.{luma-low, tables-columns, tables-rows}
+use Rattle.mask_edges.proofs.CellTables.{luma-low, tables-columns, tables-rows}
 use Rattle.mask_edges.proofs.Theorems.{bitsOf, B, I, one-recorded, inter-recorded}
 
 -- ---- words stay words
@@ -71,11 +71,11 @@ module _ (bit : ℕ → ℕ → ℕ → ℕ) where
   words-cell-pass across along class step false context ms w =
       words-lines across class step along (blockEdge bit along (class 0) context ms) (words-block along (class 0) context ms w)
 
-words-grid : (c r : Pass) (class : ℕ → ℕ) (t : ℕ) (skip : Bool) (a l ms : List ℕ) → Words ms → Words (gridMasks c r class t skip a l ms)
+words-grid : (c r : BlockPass) (class : ℕ → ℕ) (t : ℕ) (skip : Bool) (a l ms : List ℕ) → Words ms → Words (gridMasks c r class t skip a l ms)
 unfolding gridMasks
 words-grid c r class t skip a l ms w = words-grid-pass _ _ _ _ _ skip _ _ (words-grid-pass _ _ _ _ _ skip _ ms w)
 
-words-cells : (c r : Pass) (txa : List ℕ) (skip : Bool) (a l ms : List ℕ) → Words ms → Words (cellMasks c r txa skip a l ms)
+words-cells : (c r : BlockPass) (txa : List ℕ) (skip : Bool) (a l ms : List ℕ) → Words ms → Words (cellMasks c r txa skip a l ms)
 unfolding cellMasks
 words-cells c r txa skip a l ms w = words-cell-pass _ _ _ _ _ skip _ _ (words-cell-pass _ _ _ _ _ skip _ ms w)
 
@@ -149,7 +149,7 @@ module _ (tm : List ℕ) (t w4 h4 : ℕ) (h : wholeBy t w4 h4 (Tx_Wide t) (Tx_Hi
     unfolding stores
     whole-above =
         upTo-same (λ v c. set c v (lumaClass (Tx_High t))) (λ v c. set c v (lastRow tm t w4 h4 v)) w4
-        (λ v g s. let e : h4 - 1 < h4 = omega (arith, r .high .0) in
+        (λ v g s. let e : h4 - 1 < h4 = omega (arith, r .height .0) in
         ap (set s v) (sym (tables-rows by4 bx4 w4 h4 t skip tm a l c .class (h4 - 1) v e g
         ∙ ap (λ (k : ℕ). lumaClass (Tx_High k)) (unsplit v (h4 - 1) g e)))) a
 
@@ -157,6 +157,6 @@ module _ (tm : List ℕ) (t w4 h4 : ℕ) (h : wholeBy t w4 h4 (Tx_Wide t) (Tx_Hi
     unfolding stores
     whole-left =
         upTo-same (λ v c. set c v (lumaClass (Tx_Wide t))) (λ v c. set c v (lastColumn tm t w4 h4 v)) h4
-        (λ v g s. let e : w4 - 1 < w4 = omega (arith, r .wide .0) in
+        (λ v g s. let e : w4 - 1 < w4 = omega (arith, r .width .0) in
         ap (set s v) (sym (tables-columns by4 bx4 w4 h4 t skip tm a l c .class (w4 - 1) v e g
         ∙ ap (λ (k : ℕ). lumaClass (Tx_Wide k)) (unsplit (w4 - 1) v e g)))) l

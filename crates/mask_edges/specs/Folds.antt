@@ -29,7 +29,7 @@ use Rattle.units.specs.Memory.{lumaWord, chromaWord, halfUnits}
 use Rattle.units.specs.Sizes.{lumaClass, chromaClass}
 use Rattle.decomp.specs.Cells.{cell}
 use Rattle.decomp.specs.Folds.{block}
-use Rattle.mask_edges.specs.declared.edge.Pass.{Pass}
+use Rattle.mask_edges.specs.declared.edge.BlockPass.{BlockPass}
 
 abbrev pub edgeWord : Bool → ℕ → ℕ → ℕ → ℕ → ℕ
 edgeWord chroma pass unit class half = cond chroma (chromaWord pass unit class half) (lumaWord pass unit class half)
@@ -40,7 +40,7 @@ classes chroma = cond chroma 2 3
 unfoldable pub edgeBit : Bool → ℕ → ℕ → ℕ → ℕ → ℕ → ℕ
 edgeBit chroma half pass unit class place = 16 * edgeWord chroma pass unit class (place / half) + place % half
 
-abbrev pub bitIn : Pass → ℕ → ℕ → ℕ → ℕ
+abbrev pub bitIn : BlockPass → ℕ → ℕ → ℕ → ℕ
 bitIn p u class v = edgeBit (p .chroma) (p .half) (p .pass) (p .unit + u) class (p .place + v)
 
 module _ (bit : ℕ → ℕ → ℕ → ℕ) where
@@ -61,7 +61,7 @@ module _ (bit : ℕ → ℕ → ℕ → ℕ) where
 unfoldable pub stores : ℕ → (ℕ → ℕ) → List ℕ → List ℕ
 stores n f = upTo (λ v c. set c v (f v)) n
 
-pub record Edged (p : Pass) (class : ℕ) (c ms : List ℕ) (v : ℕ) (ctx masks : List ℕ) : Type 0 where
+pub record Edged (p : BlockPass) (class : ℕ) (c ms : List ℕ) (v : ℕ) (ctx masks : List ℕ) : Type 0 where
   pub context : ctx ≡ stores v (λ _. class) c
   pub edge : masks ≡ blockEdge (bitIn p) v (λ _. class) (λ i. getD c i 0) ms
 
@@ -75,14 +75,14 @@ module _ (bit : ℕ → ℕ → ℕ → ℕ) (across along : ℕ) where
   cellPass class step skip context ms =
       cond skip (blockEdge bit along (class 0) context ms) (lineEdges bit across class step along (blockEdge bit along (class 0) context ms))
 
-abbrev pub passOf : Bool → ℕ → ℕ → ℕ → ℕ → ℕ → ℕ → Pass
+abbrev pub passOf : Bool → ℕ → ℕ → ℕ → ℕ → ℕ → ℕ → BlockPass
 passOf chroma half pass unit place across along =
     record { chroma = chroma; half = half; pass = pass; unit = unit; place = place; across = across; along = along }
 
-abbrev pub columnsOf : Bool → ℕ → ℕ → ℕ → ℕ → ℕ → Pass
+abbrev pub columnsOf : Bool → ℕ → ℕ → ℕ → ℕ → ℕ → BlockPass
 columnsOf chroma half by4 bx4 w4 h4 = passOf chroma half 0 bx4 by4 w4 h4
 
-abbrev pub rowsOf : Bool → ℕ → ℕ → ℕ → ℕ → ℕ → Pass
+abbrev pub rowsOf : Bool → ℕ → ℕ → ℕ → ℕ → ℕ → BlockPass
 rowsOf chroma half by4 bx4 w4 h4 = passOf chroma half 1 by4 bx4 h4 w4
 
 pub data Reach (step : ℕ → ℕ) : ℕ → Type 0 where
@@ -93,10 +93,10 @@ unfoldable pub cellAt : ℕ → ℕ → ℕ → ℕ → ℕ
 cellAt zero what u v = cell what v u
 cellAt (suc pass) what u v = cell (2 + what) u v
 
-abbrev pub classIn : List ℕ → Pass → ℕ → ℕ → ℕ
+abbrev pub classIn : List ℕ → BlockPass → ℕ → ℕ → ℕ
 classIn a p u v = getD a (cellAt (p .pass) 0 u v) 0
 
-abbrev pub stepIn : List ℕ → Pass → ℕ → ℕ → ℕ
+abbrev pub stepIn : List ℕ → BlockPass → ℕ → ℕ → ℕ
 stepIn a p u v = getD a (cellAt (p .pass) 1 u v) 0
 
 unfoldable pub zeros : List ℕ
@@ -105,12 +105,12 @@ zeros = replicate 4096 0
 abbrev pub tables : List ℕ → ℕ → ℕ → ℕ → List ℕ
 tables ms t w4 h4 = block ms t w4 h4 zeros
 
-unfoldable pub gridMasks : Pass → Pass → (ℕ → ℕ) → ℕ → Bool → List ℕ → List ℕ → List ℕ → List ℕ
+unfoldable pub gridMasks : BlockPass → BlockPass → (ℕ → ℕ) → ℕ → Bool → List ℕ → List ℕ → List ℕ → List ℕ
 gridMasks c r class t skip a l ms =
     gridPass (bitIn r) (r .across) (r .along) (Tx_High t) (class (Tx_High t)) skip (λ x. getD a x 0)
     (gridPass (bitIn c) (c .across) (c .along) (Tx_Wide t) (class (Tx_Wide t)) skip (λ y. getD l y 0) ms)
 
-unfoldable pub cellMasks : Pass → Pass → List ℕ → Bool → List ℕ → List ℕ → List ℕ → List ℕ
+unfoldable pub cellMasks : BlockPass → BlockPass → List ℕ → Bool → List ℕ → List ℕ → List ℕ → List ℕ
 cellMasks c r txa skip a l ms =
     cellPass (bitIn r) (r .across) (r .along) (classIn txa r) (stepIn txa r) skip (λ x. getD a x 0)
     (cellPass (bitIn c) (c .across) (c .along) (classIn txa c) (stepIn txa c) skip (λ y. getD l y 0) ms)
@@ -118,14 +118,14 @@ cellMasks c r txa skip a l ms =
 abbrev pub wholeBy : ℕ → ℕ → ℕ → ℕ → ℕ → ℕ → Bool
 wholeBy t w4 h4 w h m = (eqb t 0 || eqb m 0) || ((leb w4 w && leb h4 h) && not (hasBit m 0))
 
-pub record Held (p : Pass) (len : ℕ) : Type 0 where
+pub record Held (p : BlockPass) (len : ℕ) : Type 0 where
   pub pass : p .pass < 2
   pub half : (0 < p .half) × (p .half ≤ 16)
   pub unit : p .unit + p .across ≤ 32
   pub place : p .place + p .along ≤ 2 * p .half
   pub words : 640 ≤ len
 
-pub record Told (a : List ℕ) (p : Pass) : Type 0 where
+pub record Told (a : List ℕ) (p : BlockPass) : Type 0 where
   pub tables : length a ≡ 4096
   pub class : (u v : ℕ) → u < p .across → v < p .along → classIn a p u v < classes (p .chroma)
   pub steps : (u v : ℕ) → Reach (λ x. stepIn a p x v) u → u < p .across → v < p .along → 0 < stepIn a p u v
@@ -138,7 +138,7 @@ module _ (by4 bx4 w4 h4 : ℕ) where
   intraMasks = oneMasks false
 
   abbrev pub chromaMasks : Bool → ℕ → ℕ → ℕ → List ℕ → List ℕ → List ℕ → List ℕ
-  chromaMasks skip t hor ver = gridMasks (columnsOf true (halfUnits ver) by4 bx4 w4 h4) (rowsOf true (halfUnits hor) by4 bx4 w4 h4) chromaClass t skip
+  chromaMasks skip t ss-hor ss-ver = gridMasks (columnsOf true (halfUnits ss-ver) by4 bx4 w4 h4) (rowsOf true (halfUnits ss-hor) by4 bx4 w4 h4) chromaClass t skip
 
   abbrev pub interMasks : Bool → ℕ → List ℕ → List ℕ → List ℕ → List ℕ → List ℕ
   interMasks skip t ms = cellMasks (columnsOf false 16 by4 bx4 w4 h4) (rowsOf false 16 by4 bx4 w4 h4) (tables ms t w4 h4) skip

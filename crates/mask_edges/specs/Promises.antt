@@ -18,7 +18,7 @@ pub record Promises : Type 0 where
       → Covers t w4 h4
       → Recorded (interBlock by4 bx4 w4 h4 skip t tx-masks a l) lumaBit ms (interMasks by4 bx4 w4 h4 skip t tx-masks a l ms)
       × Contexts (interBlock by4 bx4 w4 h4 skip t tx-masks a l) (stores w4 (lastRow tx-masks t w4 h4) a) (stores h4 (lastColumn tx-masks t w4 h4) l)
-  pub chroma : (by4 bx4 w4 h4 : ℕ) (skip : Bool) (t hor ver : ℕ) (a l ms : List ℕ) → Room by4 bx4 w4 h4 hor ver (length ms) (length a) (length l) → t < 19
-      → hor ≤ 1 → ver ≤ 1
-      → Recorded (chromaBlock by4 bx4 w4 h4 skip t a l) (chromaBits hor ver) ms (chromaMasks by4 bx4 w4 h4 skip t hor ver a l ms)
+  pub chroma : (by4 bx4 w4 h4 : ℕ) (skip : Bool) (t ss-hor ss-ver : ℕ) (a l ms : List ℕ) → Room by4 bx4 w4 h4 ss-hor ss-ver (length ms) (length a) (length l) → t < 19
+      → ss-hor ≤ 1 → ss-ver ≤ 1
+      → Recorded (chromaBlock by4 bx4 w4 h4 skip t a l) (chromaBits ss-hor ss-ver) ms (chromaMasks by4 bx4 w4 h4 skip t ss-hor ss-ver a l ms)
       × Contexts (chromaBlock by4 bx4 w4 h4 skip t a l) (stores w4 (λ _. chromaClass (Tx_High t)) a) (stores h4 (λ _. chromaClass (Tx_Wide t)) l)

@@ -9,7 +9,7 @@
 --   Recorded            the bits of the block's edges are set, and no other changes; `bit pass unit class place` is the bit of an edge
 --   Contexts            the two contexts after the block
 --   Room                what the recorders ask: the block lies in its record, and the contexts reach as far; ss 0 for luma
---   chromaBits hor ver  the bit of a chroma edge (of luma: lumaBit)
+--   chromaBits ss-hor ss-ver  the bit of a chroma edge (of luma: lumaBit)
 --   intraBlock, interBlock, chromaBlock     the blocks that the three recorders take: of one transform t, or of those that tx_masks make
 --                       of t; inner edges of a skipped inter block do not count; a and l are the contexts above and left
 use mathlib.Core.Path.{_≡_}
@@ -100,8 +100,8 @@ pub record Contexts (B : Block) (above left : List ℕ) : Type 0 where
 
 -- the bit of a chroma edge: a half holds 16 units, or 16 >> ss of the direction along the pass
 abbrev pub chromaBits : ℕ → ℕ → ℕ → ℕ → ℕ → ℕ → ℕ
-chromaBits hor ver zero = chromaBit ver 0
-chromaBits hor ver (suc pass) = chromaBit hor 1
+chromaBits ss-hor ss-ver zero = chromaBit ss-ver 0
+chromaBits ss-hor ss-ver (suc pass) = chromaBit ss-hor 1
 
 module _ (class : ℕ → ℕ) (inner : Bool) (tx : ℕ → ℕ → ℕ) (by4 bx4 w4 h4 : ℕ) (a l : List ℕ) where
   abbrev pub blockOf : Block
@@ -127,9 +127,9 @@ interBlock by4 bx4 w4 h4 skip t tx-masks a l = blockOf lumaClass (not skip) (txA
 abbrev pub chromaBlock : ℕ → ℕ → ℕ → ℕ → Bool → ℕ → List ℕ → List ℕ → Block
 chromaBlock by4 bx4 w4 h4 skip t a l = blockOf chromaClass (not skip) (λ _ _. t) by4 bx4 w4 h4 a l
 
-pub record Room (by4 bx4 w4 h4 hor ver words above left : ℕ) : Type 0 where
-  pub wide : (0 < w4) × (bx4 + w4 ≤ 2 * halfUnits hor)
-  pub high : (0 < h4) × (by4 + h4 ≤ 2 * halfUnits ver)
+pub record Room (by4 bx4 w4 h4 ss-hor ss-ver words above left : ℕ) : Type 0 where
+  pub width : (0 < w4) × (bx4 + w4 ≤ 2 * halfUnits ss-hor)
+  pub height : (0 < h4) × (by4 + h4 ≤ 2 * halfUnits ss-ver)
   pub record-words : 640 ≤ words
   pub above-units : w4 ≤ above
   pub left-units : h4 ≤ left

@@ -1,5 +1,5 @@
 // One pass over a block whose transforms the tables of `decomp` tell.
-use super::edge::Pass;
+use super::edge::BlockPass;
 use super::edge::least;
 use super::edge::set_edge;
 ghost use mathlib.Core.Path.{_≡_};
@@ -24,7 +24,7 @@ fn cell(txa: &[u8], pass: usize, what: usize, u: usize, v: usize) -> u8
 }
 
 // The block's own edge; its context becomes the class of its last units.
-fn first_edges(masks: &mut [u16], txa: &[u8], p: Pass, ctx: &mut [u8])
+fn first_edges(masks: &mut [u16], txa: &[u8], p: BlockPass, ctx: &mut [u8])
     requires { ⌜ Held p (length (now masks)) × Told (now txa) p × (0 < p .across) × (p .along ≤ length (now ctx)) ⌝ }
     ensures masks { λ _. ⌜ now (masks .exit) ≡ blockEdge (bitIn p) (p .along) (classIn (now (txa .entry)) p 0) (λ v. getD (now (ctx .entry)) v 0) (now (masks .entry)) ⌝ }
     ensures context { λ _. ⌜ now (ctx .exit) ≡ stores (p .along) (classIn (now (txa .entry)) p (p .across - 1)) (now (ctx .entry)) ⌝ }
@@ -40,9 +40,10 @@ fn first_edges(masks: &mut [u16], txa: &[u8], p: Pass, ctx: &mut [u8])
 }
 
 // The inner edges of line v: from one transform to the next, by its step.
-fn line_edges(masks: &mut [u16], txa: &[u8], p: Pass, v: usize)
+fn line_edges(masks: &mut [u16], txa: &[u8], p: BlockPass, v: usize)
     requires { ⌜ Held p (length (now masks)) × Told (now txa) p × (0 < p .across) × (v < p .along) ⌝ }
-    ensures { λ _. ⌜ now (masks .exit) ≡ walk (bitIn p) (p .across) (λ u. classIn (now (txa .entry)) p u v) (λ u. stepIn (now (txa .entry)) p u v) v (p .across) (stepIn (now (txa .entry)) p 0 v) (classIn (now (txa .entry)) p 0 v) (now (masks .entry)) ⌝ }
+    ensures { λ _. ⌜ now (masks .exit) ≡ walk (bitIn p) (p .across) (λ u. classIn (now (txa .entry)) p u v) (λ u. stepIn (now (txa .entry)) p u v) v (p .across)
+        (stepIn (now (txa .entry)) p 0 v) (classIn (now (txa .entry)) p 0 v) (now (masks .entry)) ⌝ }
 {
     let mut ltx = cell(txa, p.pass, CLASS, 0, v);
     let mut x = cell(txa, p.pass, STEP, 0, v) as usize;
@@ -54,7 +55,7 @@ fn line_edges(masks: &mut [u16], txa: &[u8], p: Pass, v: usize)
     }
 }
 
-fn inner_edges(masks: &mut [u16], txa: &[u8], p: Pass)
+fn inner_edges(masks: &mut [u16], txa: &[u8], p: BlockPass)
     requires { ⌜ Held p (length (now masks)) × Told (now txa) p × (0 < p .across) ⌝ }
     ensures { λ _. ⌜ now (masks .exit) ≡ lineEdges (bitIn p) (p .across) (classIn (now (txa .entry)) p) (stepIn (now (txa .entry)) p) (p .along) (now (masks .entry)) ⌝ }
 {
@@ -64,9 +65,10 @@ fn inner_edges(masks: &mut [u16], txa: &[u8], p: Pass)
     }
 }
 
-pub fn mask_cells(masks: &mut [u16], txa: &[u8], p: Pass, skip: bool, ctx: &mut [u8])
+pub fn mask_cells(masks: &mut [u16], txa: &[u8], p: BlockPass, skip: bool, ctx: &mut [u8])
     requires { ⌜ Held p (length (now masks)) × Told (now txa) p × (0 < p .across) × (p .along ≤ length (now ctx)) ⌝ }
-    ensures masks { λ _. ⌜ now (masks .exit) ≡ cellPass (bitIn p) (p .across) (p .along) (classIn (now (txa .entry)) p) (stepIn (now (txa .entry)) p) skip (λ v. getD (now (ctx .entry)) v 0) (now (masks .entry)) ⌝ }
+    ensures masks { λ _. ⌜ now (masks .exit) ≡ cellPass (bitIn p) (p .across) (p .along) (classIn (now (txa .entry)) p) (stepIn (now (txa .entry)) p) skip
+        (λ v. getD (now (ctx .entry)) v 0) (now (masks .entry)) ⌝ }
     ensures context { λ _. ⌜ now (ctx .exit) ≡ stores (p .along) (classIn (now (txa .entry)) p (p .across - 1)) (now (ctx .entry)) ⌝ }
 {
     first_edges(masks, txa, p, ctx);

@@ -10,9 +10,9 @@ ghost use lib.ListN.{length, getD, set};
 ghost use Rattle.bits.specs.Mark.{mark, marks};
 ghost use Rattle.mask_edges.specs.Folds.{edgeWord, classes, bitIn, columnsOf, rowsOf, Held};
 
-// Pass 0 is columns, 1 rows. `unit` and `across` are the block's place and visible size across the pass, `place` and `along`
+// BlockPass 0 is columns, 1 rows. `unit` and `across` are the block's place and visible size across the pass, `place` and `along`
 // along it; a half of a mask holds `half` units.
-pub struct Pass {
+pub struct BlockPass {
     pub chroma: bool,
     pub half: usize,
     pub pass: usize,
@@ -22,10 +22,10 @@ pub struct Pass {
     pub along: usize,
 }
 
-pub fn columns(chroma: bool, half: usize, by4: usize, bx4: usize, w4: usize, h4: usize) -> Pass
+pub fn columns(chroma: bool, half: usize, by4: usize, bx4: usize, w4: usize, h4: usize) -> BlockPass
     ensures { λ r. ⌜ r ≡ columnsOf chroma half by4 bx4 w4 h4 ⌝ }
 {
-    Pass {
+    BlockPass {
         chroma,
         half,
         pass: 0,
@@ -36,10 +36,10 @@ pub fn columns(chroma: bool, half: usize, by4: usize, bx4: usize, w4: usize, h4:
     }
 }
 
-pub fn rows(chroma: bool, half: usize, by4: usize, bx4: usize, w4: usize, h4: usize) -> Pass
+pub fn rows(chroma: bool, half: usize, by4: usize, bx4: usize, w4: usize, h4: usize) -> BlockPass
     ensures { λ r. ⌜ r ≡ rowsOf chroma half by4 bx4 w4 h4 ⌝ }
 {
-    Pass {
+    BlockPass {
         chroma,
         half,
         pass: 1,
@@ -92,7 +92,7 @@ pub fn set_in(masks: &mut [u16], at: usize, class: u8, k: usize)
 }
 
 // The block's edge at (u, v).
-pub fn set_edge(masks: &mut [u16], p: Pass, u: usize, class: u8, v: usize)
+pub fn set_edge(masks: &mut [u16], p: BlockPass, u: usize, class: u8, v: usize)
     requires { ⌜ Held p (length (now masks)) × (class < classes (p .chroma)) × (u < p .across) × (v < p .along) ⌝ }
     ensures { λ _. ⌜ now (masks .exit) ≡ mark (now (masks .entry)) (bitIn p u class v) ⌝ }
 {
@@ -130,7 +130,7 @@ fn set_half(masks: &mut [u16], at: usize, bits: u16)
 }
 
 // The block's edges at u, all along it: two words at once.
-pub fn set_edges(masks: &mut [u16], p: Pass, u: usize, class: u8)
+pub fn set_edges(masks: &mut [u16], p: BlockPass, u: usize, class: u8)
     requires { ⌜ Held p (length (now masks)) × (class < classes (p .chroma)) × (u < p .across) ⌝ }
     ensures { λ _. ⌜ now (masks .exit) ≡ marks (p .along) (bitIn p u class) (now (masks .entry)) ⌝ }
 {

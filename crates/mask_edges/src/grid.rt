@@ -1,5 +1,5 @@
 // One pass over a block of one transform, whose edges stand at every step of its side.
-use super::edge::Pass;
+use super::edge::BlockPass;
 use super::edge::edge_word;
 use super::edge::least;
 use super::edge::set_edges;
@@ -13,7 +13,7 @@ ghost use Rattle.mask_edges.specs.Folds.{classes, bitIn, blockEdge, step
 // Of the block's own edge, the units from `from` to `to`, which lie in one half; their context becomes the class.
 fn half_edge(
     masks: &mut [u16],
-    p: Pass,
+    p: BlockPass,
     half: usize,
     class: u8,
     ctx: &mut [u8],
@@ -34,7 +34,7 @@ fn half_edge(
 }
 
 // The block's own edge; its context becomes the class.
-fn block_edge(masks: &mut [u16], p: Pass, class: u8, ctx: &mut [u8])
+fn block_edge(masks: &mut [u16], p: BlockPass, class: u8, ctx: &mut [u8])
     requires { ⌜ Held p (length (now masks)) × (class < classes (p .chroma)) × (0 < p .across) × (p .along ≤ length (now ctx)) ⌝ }
     ensures masks { λ _. ⌜ now (masks .exit) ≡ blockEdge (bitIn p) (p .along) (λ _. class) (λ v. getD (now (ctx .entry)) v 0) (now (masks .entry)) ⌝ }
     ensures context { λ _. ⌜ now (ctx .exit) ≡ stores (p .along) (λ _. class) (now (ctx .entry)) ⌝ }
@@ -52,7 +52,7 @@ fn block_edge(masks: &mut [u16], p: Pass, class: u8, ctx: &mut [u8])
     half_edge(masks, p, 1, class, ctx, n, p.along);
 }
 
-fn step_edges(masks: &mut [u16], p: Pass, step: usize, class: u8)
+fn step_edges(masks: &mut [u16], p: BlockPass, step: usize, class: u8)
     requires { ⌜ Held p (length (now masks)) × (class < classes (p .chroma)) × (0 < p .across) × (0 < step) ⌝ }
     ensures { λ _. ⌜ now (masks .exit) ≡ stepEdges (bitIn p) (p .along) step class ((p .across - 1) / step) (now (masks .entry)) ⌝ }
 {
@@ -65,7 +65,14 @@ fn step_edges(masks: &mut [u16], p: Pass, step: usize, class: u8)
     }
 }
 
-pub fn mask_grid(masks: &mut [u16], p: Pass, step: usize, class: u8, skip: bool, ctx: &mut [u8])
+pub fn mask_grid(
+    masks: &mut [u16],
+    p: BlockPass,
+    step: usize,
+    class: u8,
+    skip: bool,
+    ctx: &mut [u8],
+)
     requires { ⌜ Held p (length (now masks)) × (class < classes (p .chroma)) × (0 < p .across) × (0 < step) × (p .along ≤ length (now ctx)) ⌝ }
     ensures masks { λ _. ⌜ now (masks .exit) ≡ gridPass (bitIn p) (p .across) (p .along) step class skip (λ v. getD (now (ctx .entry)) v 0) (now (masks .entry)) ⌝ }
     ensures context { λ _. ⌜ now (ctx .exit) ≡ stores (p .along) (λ _. class) (now (ctx .entry)) ⌝ }

@@ -41,7 +41,8 @@ fn one_transform(
     l: &mut [u8],
 )
     requires { ⌜ Room (by4 .0) (bx4 .0) (w4 .0) (h4 .0) 0 0 (length (now masks)) (length (now a)) (length (now l)) × (0 < w .0) × (0 < h .0) ⌝ }
-    ensures masks { λ _. ⌜ ((t : ℕ) → w .0 ≡ Tx_Wide t → h .0 ≡ Tx_High t → now (masks .exit) ≡ oneMasks (by4 .0) (bx4 .0) (w4 .0) (h4 .0) skip t (now (a .entry)) (now (l .entry)) (now (masks .entry))) ⌝ }
+    ensures masks { λ _. ⌜ ((t : ℕ) → w .0 ≡ Tx_Wide t → h .0 ≡ Tx_High t
+        → now (masks .exit) ≡ oneMasks (by4 .0) (bx4 .0) (w4 .0) (h4 .0) skip t (now (a .entry)) (now (l .entry)) (now (masks .entry))) ⌝ }
     ensures above { λ _. ⌜ now (a .exit) ≡ stores (w4 .0) (λ _. lumaClass (h .0)) (now (a .entry)) ⌝ }
     ensures left { λ _. ⌜ now (l .exit) ≡ stores (h4 .0) (λ _. lumaClass (w .0)) (now (l .entry)) ⌝ }
 {

@@ -6,7 +6,7 @@ ghost use Prim.Native.Nat.{_+_, _*_, _<_, _≤_};
 ghost use lib.IntN.{subℕ};
 ghost use Rattle.standard.specs.Narrow.{filter4_clamp, baseFilter, filter12, moved, narrow};
 ghost use Rattle.line.specs.Place.{of, make};
-use line::Line;
+use line::LineSamples;
 
 fn clamp(half: u32, v: u32) -> u32
     requires { ⌜ (0 < half) × (half ≤ 2048) ⌝ }
@@ -18,7 +18,7 @@ fn clamp(half: u32, v: u32) -> u32
     if v < 9 * half { v } else { 9 * half - 1 }
 }
 
-fn base_filter(half: u32, hev: bool, l: Line) -> u32
+fn base_filter(half: u32, hev: bool, l: LineSamples) -> u32
     requires { ⌜ (0 < half) × (half ≤ 2048) × (l .p1 < 2 * half) × (l .p0 < 2 * half) × (l .q0 < 2 * half) × (l .q1 < 2 * half) ⌝ }
     ensures { λ r. ⌜ (subℕ r (8 * half) ≡ baseFilter half hev (of l)) × (7 * half ≤ r) × (r < 9 * half) ⌝ }
 {
@@ -51,7 +51,7 @@ fn move_by(half: u32, s: u16, a: u32, b: u32) -> u16
     if up < b { 0 } else { (2 * half - 1) as u16 }
 }
 
-pub fn narrow4(half: u32, hev: bool, l: Line) -> Line
+pub fn narrow4(half: u32, hev: bool, l: LineSamples) -> LineSamples
     requires { ⌜ (0 < half) × (half ≤ 2048) × (l .p1 < 2 * half) × (l .p0 < 2 * half) × (l .q0 < 2 * half) × (l .q1 < 2 * half) ⌝ }
     ensures { λ r. ⌜ r ≡ make (narrow half hev (of l)) ⌝ }
 {
@@ -84,11 +84,11 @@ fn unclamped(half: u32, v: u32) -> bool
 // The line after the narrow filter, where it is known: no step clamps then.
 pub struct Plain {
     pub known: bool,
-    pub line: Line,
+    pub line: LineSamples,
 }
 
 // With high variance.
-pub fn plain2(half: u32, l: Line) -> Plain
+pub fn plain2(half: u32, l: LineSamples) -> Plain
     requires { ⌜ (0 < half) × (half ≤ 2048) × (l .p1 < 2 * half) × (l .p0 < 2 * half) × (l .q0 < 2 * half) × (l .q1 < 2 * half) ⌝ }
     ensures { λ r. ⌜ (r .known ≡ true → r .line ≡ make (narrow half true (of l))) ⌝ }
 {
@@ -122,7 +122,7 @@ pub fn plain2(half: u32, l: Line) -> Plain
 }
 
 // Without it: p0 and q0 stay in range by themselves.
-pub fn plain4(half: u32, l: Line) -> Plain
+pub fn plain4(half: u32, l: LineSamples) -> Plain
     requires { ⌜ (0 < half) × (half ≤ 2048) × (l .p1 < 2 * half) × (l .p0 < 2 * half) × (l .q0 < 2 * half) × (l .q1 < 2 * half) ⌝ }
     ensures { λ r. ⌜ (r .known ≡ true → r .line ≡ make (narrow half false (of l))) ⌝ }
 {

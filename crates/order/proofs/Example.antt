@@ -34,11 +34,11 @@ abbrev plane : Plane
 plane =
     record {
       stride = 128;
-      group = 32;
-      groups = 1;
+      recordUnits = 32;
+      records = 1;
       sb = 16;
       sbs = 1;
-      high = 32;
+      height = 32;
       widths = luma;
       edge = edge;
       rule = λ d c p l. record { side = luma .writes c; samples = replicate (2 * luma .writes c) 7 };
@@ -87,7 +87,7 @@ kept =
       from-top = elim [ columns ↦ λ p c e. omega (arith, edge-at p c e) | rows ↦ λ p c e. absurd (no-edge p c e) ];
       stored = omega arith;
       some-sb = omega arith;
-      some-group = omega arith;
+      some-record = omega arith;
       gives = λ d c p l. record { even = length-replicate _ 7; few = omega arith };
     }
 

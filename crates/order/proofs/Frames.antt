@@ -37,67 +37,67 @@ module _ (P : Plane) (k : Kept P) (f : Fair (P .widths)) where
 
 module _ (P : Plane) (i : ℕ) where
   abbrev colsList : List Piece
-  colsList = cat (λ g. cat (λ x. cat (λ y. (g * P .group + x, i * P .sb + y) ∷ []) (P .sb)) (P .group)) (P .groups)
+  colsList = cat (λ g. cat (λ x. cat (λ y. (g * P .recordUnits + x, i * P .sb + y) ∷ []) (P .sb)) (P .recordUnits)) (P .records)
 
   abbrev rowsList : List Piece
-  rowsList = cat (λ g. cat (λ y. cat (λ x. (i * P .sb + y, g * P .group + x) ∷ []) (P .group)) (P .sb)) (P .groups)
+  rowsList = cat (λ g. cat (λ y. cat (λ x. (i * P .sb + y, g * P .recordUnits + x) ∷ []) (P .recordUnits)) (P .sb)) (P .records)
 
   cols-run : (s : List ℕ) → colsOf P i s ≡ run (act P columns) colsList s
   unfolding colsOf
-  cols-run = loop-run _ _ _ (λ g. loop-run _ _ _ (λ x. loop-run _ _ _ (λ y s. refl) (P .sb)) (P .group)) (P .groups)
+  cols-run = loop-run _ _ _ (λ g. loop-run _ _ _ (λ x. loop-run _ _ _ (λ y s. refl) (P .sb)) (P .recordUnits)) (P .records)
 
   rows-run : (s : List ℕ) → rowsOf P i s ≡ run (act P rows) rowsList s
   unfolding rowsOf
-  rows-run = loop-run _ _ _ (λ g. loop-run _ _ _ (λ y. loop-run _ _ _ (λ x s. refl) (P .group)) (P .sb)) (P .groups)
+  rows-run = loop-run _ _ _ (λ g. loop-run _ _ _ (λ y. loop-run _ _ _ (λ x s. refl) (P .recordUnits)) (P .sb)) (P .records)
 
   cols-only : All (InRow P columns i) colsList
   cols-only =
-      all-cat _ _ (P .groups) (λ g _. all-cat _ _ (P .group) (λ x _. all-cat _ _ (P .sb) (λ y h. (record { from = omega arith; to = omega arith }, tt))))
+      all-cat _ _ (P .records) (λ g _. all-cat _ _ (P .recordUnits) (λ x _. all-cat _ _ (P .sb) (λ y h. (record { from = omega arith; to = omega arith }, tt))))
 
   rows-only : All (InRow P rows i) rowsList
   rows-only =
-      all-cat _ _ (P .groups) (λ g _. all-cat _ _ (P .sb) (λ y h. all-cat _ _ (P .group) (λ x _. (record { from = omega arith; to = omega arith }, tt))))
+      all-cat _ _ (P .records) (λ g _. all-cat _ _ (P .sb) (λ y h. all-cat _ _ (P .recordUnits) (λ x _. (record { from = omega arith; to = omega arith }, tt))))
 
   cols-distinct : Distinct colsList
   cols-distinct =
-      distinct-cat _ (λ p. p .0 / P .group) (P .groups)
-      (λ g _. all-cat _ _ (P .group) (λ x h. all-cat _ _ (P .sb) (λ y _. (digits-div g h, tt))))
-      (λ g. distinct-cat _ (λ p. p .0 - g * P .group) (P .group) (λ x _. all-cat _ _ (P .sb) (λ y _. (omega arith, tt)))
+      distinct-cat _ (λ p. p .0 / P .recordUnits) (P .records)
+      (λ g _. all-cat _ _ (P .recordUnits) (λ x h. all-cat _ _ (P .sb) (λ y _. (digits-div g h, tt))))
+      (λ g. distinct-cat _ (λ p. p .0 - g * P .recordUnits) (P .recordUnits) (λ x _. all-cat _ _ (P .sb) (λ y _. (omega arith, tt)))
       (λ x. distinct-cat _ (λ p. p .1 - i * P .sb) (P .sb) (λ y _. (omega arith, tt)) (λ y. (tt, tt))))
 
   rows-distinct : Distinct rowsList
   rows-distinct =
-      distinct-cat _ (λ p. p .1 / P .group) (P .groups)
-      (λ g _. all-cat _ _ (P .sb) (λ y _. all-cat _ _ (P .group) (λ x h. (digits-div g h, tt))))
-      (λ g. distinct-cat _ (λ p. p .0 - i * P .sb) (P .sb) (λ y _. all-cat _ _ (P .group) (λ x _. (omega arith, tt)))
-      (λ y. distinct-cat _ (λ p. p .1 - g * P .group) (P .group) (λ x _. (omega arith, tt)) (λ x. (tt, tt))))
+      distinct-cat _ (λ p. p .1 / P .recordUnits) (P .records)
+      (λ g _. all-cat _ _ (P .sb) (λ y _. all-cat _ _ (P .recordUnits) (λ x h. (digits-div g h, tt))))
+      (λ g. distinct-cat _ (λ p. p .0 - i * P .sb) (P .sb) (λ y _. all-cat _ _ (P .recordUnits) (λ x _. (omega arith, tt)))
+      (λ y. distinct-cat _ (λ p. p .1 - g * P .recordUnits) (P .recordUnits) (λ x _. (omega arith, tt)) (λ x. (tt, tt))))
 
 pair : {a b c d : ℕ} → a ≡ c → b ≡ d → _≡_ {A = Piece} (a, b) (c, d)
 pair e f = λ j. (e j, f j)
 
 module _ (P : Plane) (k : Kept P) where
-  group-of : (d : Pass) (p : Piece) → IsPiece P d p → right d p / P .group < P .groups
-  group-of d p e = div-lt-iff-lt-mul (k .some-group) .1 (k .from-left d p (e .cls) (inner-some (p .0) _ _ (e .is) .1))
+  group-of : (d : Pass) (p : Piece) → IsPiece P d p → right d p / P .recordUnits < P .records
+  group-of d p e = div-lt-iff-lt-mul (k .some-record) .1 (k .from-left d p (e .cls) (inner-some (p .0) _ _ (e .is) .1))
 
   cols-once : (i : ℕ) → OrderIn P columns i (colsList P i)
   cols-once i = record { only = cols-only P i; every = every; once = cols-distinct P i }
     where
       every : (p : Piece) → InRow P columns i p → IsPiece P columns p → List·Memᴰ p (colsList P i)
       every p a e =
-          mem-cat _ (p .0 / P .group) (P .groups) (group-of columns p e)
-          (mem-cat _ (p .0 % P .group) (P .group) (mod-lt (p .0) (k .some-group))
+          mem-cat _ (p .0 / P .recordUnits) (P .records) (group-of columns p e)
+          (mem-cat _ (p .0 % P .recordUnits) (P .recordUnits) (mod-lt (p .0) (k .some-record))
           (mem-cat _ (p .1 - i * P .sb) (P .sb) (omega (arith, a .from, a .to))
-          (List·Memᴰ·head (pair (sym (div-add-mod' (p .0) (P .group))) (omega (arith, a .from))))))
+          (List·Memᴰ·head (pair (sym (div-add-mod' (p .0) (P .recordUnits))) (omega (arith, a .from))))))
 
   rows-once : (i : ℕ) → OrderIn P rows i (rowsList P i)
   rows-once i = record { only = rows-only P i; every = every; once = rows-distinct P i }
     where
       every : (p : Piece) → InRow P rows i p → IsPiece P rows p → List·Memᴰ p (rowsList P i)
       every p a e =
-          mem-cat _ (p .1 / P .group) (P .groups) (group-of rows p e)
+          mem-cat _ (p .1 / P .recordUnits) (P .records) (group-of rows p e)
           (mem-cat _ (p .0 - i * P .sb) (P .sb) (omega (arith, a .from, a .to))
-          (mem-cat _ (p .1 % P .group) (P .group) (mod-lt (p .1) (k .some-group))
-          (List·Memᴰ·head (pair (omega (arith, a .from)) (sym (div-add-mod' (p .1) (P .group)))))))
+          (mem-cat _ (p .1 % P .recordUnits) (P .recordUnits) (mod-lt (p .1) (k .some-record))
+          (List·Memᴰ·head (pair (omega (arith, a .from)) (sym (div-add-mod' (p .1) (P .recordUnits)))))))
 
   -- ---- superblock rows one after another are the whole frame
 
@@ -128,11 +128,11 @@ module _ (P : Plane) (k : Kept P) where
 
 module _ (P : Plane) (d : Pass) where
   abbrev rasterList : List Piece
-  rasterList = cat (λ y. cat (λ x. unit d x y ∷ []) (P .groups * P .group)) (P .sbs * P .sb)
+  rasterList = cat (λ y. cat (λ x. unit d x y ∷ []) (P .records * P .recordUnits)) (P .sbs * P .sb)
 
   raster-run : (s : List ℕ) → rasterOf P d s ≡ run (act P d) rasterList s
   unfolding rasterOf
-  raster-run = loop-run _ _ _ (λ y. loop-run _ _ _ (λ x s. refl) (P .groups * P .group)) (P .sbs * P .sb)
+  raster-run = loop-run _ _ _ (λ y. loop-run _ _ _ (λ x s. refl) (P .records * P .recordUnits)) (P .sbs * P .sb)
 
 unit-down : (d : Pass) (x y : ℕ) → down d (unit d x y) ≡ y
 unit-down columns x y = refl
@@ -153,9 +153,9 @@ raster-order P k d =
       every = λ p _ e.
           let g = inner-some (p .0) (P .edge d p) (e .cls) (e .is) .1 in
           mem-cat _ (down d p) (P .sbs * P .sb) (k .from-top d p (e .cls) g)
-          (mem-cat _ (right d p) (P .groups * P .group) (k .from-left d p (e .cls) g) (List·Memᴰ·head (unit-is d p)));
-      once = distinct-cat _ (down d) (P .sbs * P .sb) (λ y _. all-cat _ _ (P .groups * P .group) (λ x _. (unit-down d x y, tt)))
-          (λ y. distinct-cat _ (right d) (P .groups * P .group) (λ x _. (unit-right d x y, tt)) (λ x. (tt, tt)));
+          (mem-cat _ (right d p) (P .records * P .recordUnits) (k .from-left d p (e .cls) g) (List·Memᴰ·head (unit-is d p)));
+      once = distinct-cat _ (down d) (P .sbs * P .sb) (λ y _. all-cat _ _ (P .records * P .recordUnits) (λ x _. (unit-down d x y, tt)))
+          (λ y. distinct-cat _ (right d) (P .records * P .recordUnits) (λ x _. (unit-right d x y, tt)) (λ x. (tt, tt)));
     }
 
 module _ (P : Plane) (k : Kept P) (f : Fair (P .widths)) where
@@ -204,7 +204,7 @@ module _ (P : Plane) (k : Kept P) (f : Fair (P .widths)) where
         go none = omega arith
 
     abbrev Stored : ℕ → Type 0
-    Stored i = i % P .stride < 4 * (P .groups * P .group)
+    Stored i = i % P .stride < 4 * (P .records * P .recordUnits)
 
     -- what a piece reads is stored, if its line is
     stays : (d : Pass) (p : Piece) (j i : ℕ) → Reads P d p j → lineOf d (P .stride) j ≡ lineOf d (P .stride) i → Stored i → Stored j

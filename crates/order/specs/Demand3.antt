@@ -59,8 +59,8 @@ pub record Near (S w n i j : ℕ) : Type 0 where
 
 -- the whole run sees no farther than n samples
 pub record Sees (P : Plane) (n : ℕ) : Type 0 where
-  pub sees : (s t : List ℕ) → length s ≡ length t → (i : ℕ) → i % P .stride < 4 * (P .groups * P .group)
-      → ((j : ℕ) → Near (P .stride) (4 * (P .groups * P .group)) n i j → getD s j 0 ≡ getD t j 0)
+  pub sees : (s t : List ℕ) → length s ≡ length t → (i : ℕ) → i % P .stride < 4 * (P .records * P .recordUnits)
+      → ((j : ℕ) → Near (P .stride) (4 * (P .records * P .recordUnits)) n i j → getD s j 0 ≡ getD t j 0)
       → getD (upTo (λ k u. rowsOf P k (colsOf P k u)) (P .sbs) s) i 0 ≡ getD (upTo (λ k u. rowsOf P k (colsOf P k u)) (P .sbs) t) i 0
 
 -- ---- the three planes of a frame

@@ -11,19 +11,19 @@ use borrow.Author.Tests.{ltb-true}
 use Rattle.loops.proofs.Bools.{both-true}
 use Rattle.bits.specs.Mark.{isSet}
 use Rattle.plane.specs.Gap.{GapRule}
-use Rattle.plane.specs.Line.{Pass, columns, rows, Piece}
+use Rattle.plane.specs.Line.{Pass, columns, rows, Piece, other}
 use Rattle.plane.specs.Plane.{down}
 use Rattle.units.specs.Frame.{records}
 use Rattle.units.specs.Memory.{halfUnits}
 use Rattle.units.specs.Units.{chromaUnit, chromaUnits}
 use Rattle.units.proofs.Places.{by-ss}
-use Rattle.edges.specs.Edges.{Grid, Proper, other, unitsOf, half, classes, edgeBit, inFrame, highest, edge}
+use Rattle.edges.specs.Edges.{Grid, Proper, unitsOf, half, classes, edgeBit, inFrame, highest, edge}
 use Rattle.gap.specs.Numbers.{sbUnits, storedUnits, part, halfBit}
 use Rattle.gap.specs.Promises.{Nowhere, Keeps, Looks, Across, Along}
 use Rattle.gap.proofs.Shapes.{units-stored}
 use Rattle.gap.proofs.Masks as masks
-use Rattle.gap.proofs.Told.{promises}
-use Rattle.frames.proofs.Kepts.{Size, by-size}
+use Rattle.gap.proofs.NumbersMean.{promises}
+use Rattle.frames.proofs.GapKept.{Size, by-size}
 use Rattle.own_row.specs.Own.{SameBits}
 
 highest-same : (n : ℕ) (f g : ℕ → Bool) → ((c : ℕ) → c < n → f c ≡ g c) → highest n f ≡ highest n g
@@ -47,12 +47,12 @@ module _ (G : Grid) (proper : Proper G) (sb4 k : ℕ) (size : Size sb4) where
   InRow d p = (k * sbUnits G sb4 ≤ down d p) × (down d p < (k + 1) * sbUnits G sb4)
 
   across : (d : Pass) (p : Piece) → p .0 < unitsOf G d → InRow d p → Across G d sb4 k (p .0)
-  across columns p x r = omega (arith, units-stored (G .ssx) (G .w4) (proper .ssx-le))
+  across columns p x r = omega (arith, units-stored (G .ss-hor) (G .w4) (proper .ss-hor-le))
   across rows p x r = r
 
   along : (d : Pass) (p : Piece) → p .1 < unitsOf G (other d) → InRow d p → Along G d sb4 k (p .1 / half G d)
-  along columns p y r = own-half k (p .1) sb4 (G .ssy) size (proper .ssy-le) (r .0) (r .1)
-  along rows p y r = stored-half (G .w4) (p .1) (G .ssx) (proper .ssx-le) y
+  along columns p y r = own-half k (p .1) sb4 (G .ss-ver) size (proper .ss-ver-le) (r .0) (r .1)
+  along rows p y r = stored-half (G .w4) (p .1) (G .ss-hor) (proper .ss-hor-le) y
 
   module _ (d : Pass) (ms ms′ : List ℕ) (s : SameBits G d sb4 k ms ms′) where
     bit-same : (p : Piece) (c : ℕ) → p .0 < unitsOf G d → p .1 < unitsOf G (other d) → InRow d p → c < classes G

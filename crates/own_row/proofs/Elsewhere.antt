@@ -10,7 +10,7 @@ use lib.Seq.{getD-set-other}
 use borrow.Author.Tests.{ne-eqb}
 use Rattle.bits.specs.Mark.{isSet, mark}
 use Rattle.bits.proofs.Marks.{length-mark, isSet-mark}
-use Rattle.plane.specs.Line.{Pass, columns, rows, Piece}
+use Rattle.plane.specs.Line.{Pass, columns, rows, Piece, other, passNo}
 use Rattle.plane.specs.Three.{Three}
 use Rattle.plane.specs.Plane.{right, down}
 use Rattle.units.specs.Frame.{records, frameRecords}
@@ -18,22 +18,22 @@ use Rattle.units.specs.Layout.{ssHor}
 use Rattle.units.specs.Memory.{levelAt, lumaWord, chromaWord, halfUnits}
 use Rattle.units.specs.Units.{chromaUnit}
 use Rattle.units.proofs.Places.{by-ss, chroma-units-le}
-use Rattle.edges.specs.Edges.{Grid, Proper, other, passNo, ssOf, unitsOf, side, half, recordAt, classes, wordIn, edgeBit}
+use Rattle.edges.specs.Edges.{Grid, Proper, ssOf, unitsOf, side, half, recordAt, classes, wordIn, edgeBit}
 use Rattle.edges.proofs.Bits.{edge-bit-in}
 use Rattle.gap.specs.Numbers.{sbUnits, storedUnits, halfBit}
 use Rattle.gap.specs.Promises.{Across, Along}
-use Rattle.gap.proofs.Told.{promises}
+use Rattle.gap.proofs.NumbersMean.{promises}
 use Rattle.gap.proofs.Masks as masks
 use Rattle.gap.proofs.Shapes.{units-stored}
-use Rattle.filter.specs.Filter.{kindOf}
+use Rattle.filter.specs.Filter.{areaOf}
 use Rattle.checks.specs.declared.Call.{Call}
 use Rattle.checks.specs.Call as checks
-use Rattle.checks.specs.Call.{passOf, w4, h4, sb4, gridOf, Filtered, luma, chroma-u, chroma-v, Shaped, Roomy}
-use Rattle.checks.proofs.Passed.{sizes, proper}
+use Rattle.checks.specs.Call.{callPass, w4, h4, sb4, gridOf, Filtered, luma, chroma-u, chroma-v, Shaped, Roomy}
+use Rattle.checks.proofs.TestsPassed.{sizes, proper}
 use Rattle.checks.proofs.Accepted.{accepted-shape, accepted-lengths}
 use Rattle.apply.specs.Apply.{componentOf}
 use Rattle.frames.specs.Calls.{Frame, callAt, lentOf, sbRows, Accepted}
-use Rattle.frames.proofs.Kepts.{Size, by-size}
+use Rattle.frames.proofs.GapKept.{Size, by-size}
 use Rattle.own_row.specs.Own.{OwnLine, SameTables}
 use Rattle.own_row.specs.Elsewhere.{OtherLevel, OtherEdge, Elsewhere}
 use Rattle.own_row.specs.Turns.{Moment, OwnRows}
@@ -53,34 +53,34 @@ pass-lt : (d : Pass) → passNo d < 2
 pass-lt columns = omega arith
 pass-lt rows = omega arith
 
-kind-chroma : (c : Call) (n : ℕ) (d : Pass) → kindOf (componentOf c (suc n)) d ≡ suc (suc n)
-kind-chroma c n d = rw (ne-eqb (suc n) 0 (λ e. omega arith)) refl
+area-chroma : (c : Call) (n : ℕ) (d : Pass) → areaOf (componentOf c (suc n)) d ≡ suc (suc n)
+area-chroma c n d = rw (ne-eqb (suc n) 0 (λ e. omega arith)) refl
 
-kind-lt : (c : Call) (n : ℕ) (d : Pass) → n ≤ 2 → kindOf (componentOf c n) d < 4
-kind-lt c zero d h = omega (arith, pass-lt d)
-kind-lt c (suc n) d h = omega (arith, kind-chroma c n d)
+area-lt : (c : Call) (n : ℕ) (d : Pass) → n ≤ 2 → areaOf (componentOf c n) d < 4
+area-lt c zero d h = omega (arith, pass-lt d)
+area-lt c (suc n) d h = omega (arith, area-chroma c n d)
 
 -- a byte tells luma from chroma
-kind-grid : (c : Call) (n n′ : ℕ) (d d′ : Pass) → kindOf (componentOf c n) d ≡ kindOf (componentOf c n′) d′ → gridOf c n ≡ gridOf c n′
-kind-grid c zero zero d d′ e = refl
-kind-grid c zero (suc n′) d d′ e = absurd (omega (arith, pass-lt d, kind-chroma c n′ d′))
-kind-grid c (suc n) zero d d′ e = absurd (omega (arith, pass-lt d′, kind-chroma c n d))
-kind-grid c (suc n) (suc n′) d d′ e = refl
+area-grid : (c : Call) (n n′ : ℕ) (d d′ : Pass) → areaOf (componentOf c n) d ≡ areaOf (componentOf c n′) d′ → gridOf c n ≡ gridOf c n′
+area-grid c zero zero d d′ e = refl
+area-grid c zero (suc n′) d d′ e = absurd (omega (arith, pass-lt d, area-chroma c n′ d′))
+area-grid c (suc n) zero d d′ e = absurd (omega (arith, pass-lt d′, area-chroma c n d))
+area-grid c (suc n) (suc n′) d d′ e = refl
 
-own-level : (c : Call) (n x y : ℕ) → n ≤ 2 → x < w4 c → w4 c ≤ c .pitch → OwnLine (gridOf c n) (sb4 c) (c .row) (passNo (passOf c)) y
-    → ¬ OtherLevel c (levelAt (c .pitch) x y (kindOf (componentOf c n) (passOf c)))
+own-level : (c : Call) (n x y : ℕ) → n ≤ 2 → x < w4 c → w4 c ≤ c .«level_stride» → OwnLine (gridOf c n) (sb4 c) (c .row) (passNo (callPass c)) y
+    → ¬ OtherLevel c (levelAt (c .«level_stride») x y (areaOf (componentOf c n) (callPass c)))
 unfolding levelAt
 own-level c n x y l r h o a =
-    let k = kind-lt c n (passOf c) l in
-    let k′ = kind-lt c (a .plane) (a .pass) (a .a-plane) in
-    let p : y * c .pitch + x ≡ a .y * c .pitch + a .x = omega (arith, a .at) in
-    let q : kindOf (componentOf c n) (passOf c) ≡ kindOf (componentOf c (a .plane)) (a .pass) = omega (arith, a .at) in
-    let z = digits y (a .y) x (a .x) (c .pitch) (omega arith) (omega (arith, a .right)) p in
-    a .line (rw (← kind-grid c n (a .plane) (passOf c) (a .pass) q, ← z .0) o)
+    let k = area-lt c n (callPass c) l in
+    let k′ = area-lt c (a .plane) (a .pass) (a .a-plane) in
+    let p : y * c .«level_stride» + x ≡ a .y * c .«level_stride» + a .x = omega (arith, a .at) in
+    let q : areaOf (componentOf c n) (callPass c) ≡ areaOf (componentOf c (a .plane)) (a .pass) = omega (arith, a .at) in
+    let z = digits y (a .y) x (a .x) (c .«level_stride») (omega arith) (omega (arith, a .right)) p in
+    a .line (rw (← area-grid c n (a .plane) (callPass c) (a .pass) q, ← z .0) o)
 
 -- ---- bits
 
--- a word of a record, b being the kind
+-- a word of a record, b being the area
 abbrev word : Bool → Pass → ℕ → ℕ → ℕ → ℕ
 word b d u k h = cond b (lumaWord (passNo d) u k h) (chromaWord (passNo d) u k h)
 
@@ -98,9 +98,9 @@ word-inj false false d d′ u u′ k k′ h h′ x x′ y y′ z z′ e = (refl,
 side-le : (u ss : ℕ) → ss ≤ 1 → u % (32 / 2 ^ ss) < 32
 side-le u = by-ss (λ ss. u % (32 / 2 ^ ss) < 32) (omega arith) (omega arith)
 
--- the bit of a half tells its kind, pass, unit and half in the record, and the record
+-- the bit of a half tells its area, pass, unit and half in the record, and the record
 record Told (G H : Grid) (d d′ : Pass) (u u′ j j′ : ℕ) : Type 0 where
-  kind : G .isLuma ≡ H .isLuma
+  area : G .luma ≡ H .luma
   pass : passNo d ≡ passNo d′
   unit : u % side G d ≡ u′ % side H d′
   halfNo : j % 2 ≡ j′ % 2
@@ -112,11 +112,11 @@ unfolding halfBit
 told G H p q d d′ u u′ k k′ j j′ b b′ x x′ y y′ e =
     let s = side-le u (ssOf G d) (masks.ss-le G p d) in
     let s′ = side-le u′ (ssOf H d′) (masks.ss-le H q d′) in
-    let w = word-in (G .isLuma) d (u % side G d) k (j % 2) s x (omega arith) in
-    let w′ = word-in (H .isLuma) d′ (u′ % side H d′) k′ (j′ % 2) s′ x′ (omega arith) in
+    let w = word-in (G .luma) d (u % side G d) k (j % 2) s x (omega arith) in
+    let w′ = word-in (H .luma) d′ (u′ % side H d′) k′ (j′ % 2) s′ x′ (omega arith) in
     let z : wordIn G d (u % side G d) k (j % 2) ≡ wordIn H d′ (u′ % side H d′) k′ (j′ % 2) = omega arith in
-    let i = word-inj (G .isLuma) (H .isLuma) d d′ (u % side G d) (u′ % side H d′) k k′ (j % 2) (j′ % 2) s s′ x x′ (omega arith) (omega arith) z in
-    record { kind = i .0; pass = i .1; unit = i .2; halfNo = i .3; recordNo = omega arith }
+    let i = word-inj (G .luma) (H .luma) d d′ (u % side G d) (u′ % side H d′) k k′ (j % 2) (j′ % 2) s s′ x x′ (omega arith) (omega arith) z in
+    record { area = i .0; pass = i .1; unit = i .2; halfNo = i .3; recordNo = omega arith }
 
 -- one grid and pass
 
@@ -132,12 +132,12 @@ side-again u u′ = by-ss (λ ss. u / (32 / 2 ^ ss) ≡ u′ / (32 / 2 ^ ss) →
 
 one-unit : (G : Grid) → Proper G → (d : Pass) (u u′ j j′ : ℕ) → In G d u j → In G d u′ j′ → Told G G d d u u′ j j′ → (u ≡ u′) × (j ≡ j′)
 one-unit G p columns u u′ j j′ x x′ t =
-    let i = digits (j / 2) (j′ / 2) (u / side G columns) (u′ / side G columns) (records (G .w4)) (record-lt (G .ssx) _ u (p .ssx-le) x)
-    (record-lt (G .ssx) _ u′ (p .ssx-le) x′) (t .recordNo) in
-    (side-again u u′ (G .ssx) (p .ssx-le) (i .1) (t .unit), omega (arith, i .0, t .halfNo))
+    let i = digits (j / 2) (j′ / 2) (u / side G columns) (u′ / side G columns) (records (G .w4)) (record-lt (G .ss-hor) _ u (p .ss-hor-le) x)
+    (record-lt (G .ss-hor) _ u′ (p .ss-hor-le) x′) (t .recordNo) in
+    (side-again u u′ (G .ss-hor) (p .ss-hor-le) (i .1) (t .unit), omega (arith, i .0, t .halfNo))
 one-unit G p rows u u′ j j′ x x′ t =
     let i = digits (u / side G rows) (u′ / side G rows) (j / 2) (j′ / 2) (records (G .w4)) (omega arith) (omega arith) (t .recordNo) in
-    (side-again u u′ (G .ssy) (p .ssy-le) (i .0) (t .unit), omega (arith, i .1, t .halfNo))
+    (side-again u u′ (G .ss-ver) (p .ss-ver-le) (i .0) (t .unit), omega (arith, i .1, t .halfNo))
 
 -- a line in a half of the row is the row's
 own-line : (k v sb4 ss : ℕ) → Size sb4 → ss ≤ 1 → k * (sb4 / 16) ≤ v / halfUnits ss → v / halfUnits ss < (k + 1) * (sb4 / 16)
@@ -149,8 +149,8 @@ own-line k v =
 
 module _ (G : Grid) (p : Proper G) (sb4 k : ℕ) (size : Size sb4) where
   stored-in : (d : Pass) (q : Piece) → q .0 < unitsOf G d → q .1 < unitsOf G (other d) → In G d (q .0) (q .1 / half G d)
-  stored-in columns q x y = omega (arith, units-stored (G .ssx) (G .w4) (p .ssx-le))
-  stored-in rows q x y = stored-half (G .w4) (q .1) (G .ssx) (p .ssx-le) y
+  stored-in columns q x y = omega (arith, units-stored (G .ss-hor) (G .w4) (p .ss-hor-le))
+  stored-in rows q x y = stored-half (G .w4) (q .1) (G .ss-hor) (p .ss-hor-le) y
 
   looked-in : (d : Pass) (u j : ℕ) → Across G d sb4 k u → Along G d sb4 k j → In G d u j
   looked-in columns u j x y = x
@@ -158,7 +158,7 @@ module _ (G : Grid) (p : Proper G) (sb4 k : ℕ) (size : Size sb4) where
 
   in-row : (d : Pass) (q : Piece) → Across G d sb4 k (q .0) → Along G d sb4 k (q .1 / half G d)
       → OwnLine G sb4 k 0 (down d q)
-  in-row columns q x y = own-line k (q .1) sb4 (G .ssy) size (p .ssy-le) (y .0) (y .1)
+  in-row columns q x y = own-line k (q .1) sb4 (G .ss-ver) size (p .ss-ver-le) (y .0) (y .1)
   in-row rows q x y = (omega (arith, x .0), x .1)
 
   -- so an edge whose bit the call looks at is of the row
@@ -181,22 +181,22 @@ module _ (c : Call) (h : Shaped c) where
       → Across (gridOf c n) d (sb4 c) (c .row) u → Along (gridOf c n) d (sb4 c) (c .row) j
       → Told (gridOf c n) (gridOf c n′) d d′ u (q .0) j (q .1 / half (gridOf c n′) d′) → OwnLine (gridOf c n′) (sb4 c) (c .row) 0 (down d′ q)
   of-own-row zero zero d d′ q u j x y a l t = of-row (gridOf c 0) (proper c 0) (sb4 c) (c .row) (sizes c h) d d′ q u j x y a l t
-  of-own-row zero (suc n′) d d′ q u j x y a l t = absurd (false≢true (sym (t .kind)))
-  of-own-row (suc n) zero d d′ q u j x y a l t = absurd (false≢true (t .kind))
+  of-own-row zero (suc n′) d d′ q u j x y a l t = absurd (false≢true (sym (t .area)))
+  of-own-row (suc n) zero d d′ q u j x y a l t = absurd (false≢true (t .area))
   of-own-row (suc n) (suc n′) d d′ q u j x y a l t = of-row (gridOf c 1) (proper c 1) (sb4 c) (c .row) (sizes c h) d d′ q u j x y a l t
 
-  own-bit : (n u k j b : ℕ) → Across (gridOf c n) (passOf c) (sb4 c) (c .row) u → Along (gridOf c n) (passOf c) (sb4 c) (c .row) j
-      → k < classes (gridOf c n) → b < 16 → ¬ OtherEdge c (halfBit (gridOf c n) (passOf c) u k j b)
+  own-bit : (n u k j b : ℕ) → Across (gridOf c n) (callPass c) (sb4 c) (c .row) u → Along (gridOf c n) (callPass c) (sb4 c) (c .row) j
+      → k < classes (gridOf c n) → b < 16 → ¬ OtherEdge c (halfBit (gridOf c n) (callPass c) u k j b)
   own-bit n u k j b x y a l o =
       let H = gridOf c (o .plane) in
       let q = o .unit in
       let z = masks.along H (proper c (o .plane)) (o .pass) in
-      let e : halfBit (gridOf c n) (passOf c) u k j b ≡ halfBit H (o .pass) (q .0) (o .class) (q .1 / half H (o .pass)) (q .1 % half H (o .pass)) =
+      let e : halfBit (gridOf c n) (callPass c) u k j b ≡ halfBit H (o .pass) (q .0) (o .class) (q .1 / half H (o .pass)) (q .1 % half H (o .pass)) =
       o .at ∙ ap (λ (v : ℕ). edgeBit H (o .pass) (q .0, v) (o .class)) (sym (z .again (q .1)))
       ∙ promises .bits H (proper c (o .plane)) (o .pass) (q .0) (o .class) (q .1 / half H (o .pass)) (q .1 % half H (o .pass)) (z .bit-of (q .1)) in
       o .line
-      (of-own-row n (o .plane) (passOf c) (o .pass) q u j (o .across) (o .along) x y
-      (told (gridOf c n) H (proper c n) (proper c (o .plane)) (passOf c) (o .pass) u (q .0) k (o .class) j (q .1 / half H (o .pass)) b (q .1 % half H (o .pass))
+      (of-own-row n (o .plane) (callPass c) (o .pass) q u j (o .across) (o .along) x y
+      (told (gridOf c n) H (proper c n) (proper c (o .plane)) (callPass c) (o .pass) u (q .0) k (o .class) j (q .1 / half H (o .pass)) b (q .1 % half H (o .pass))
       a (o .a-class) l (omega (arith, z .most, z .bit-of (q .1))) e))
 
 -- ---- so what differs elsewhere alone does not count
@@ -206,21 +206,21 @@ plane-le c luma = omega arith
 plane-le c (chroma-u a b) = omega arith
 plane-le c (chroma-v a b) = omega arith
 
-kind-is : (c : Call) {n : ℕ} → Filtered c n → checks.kindOf c n ≡ kindOf (componentOf c n) (passOf c)
-kind-is c luma = refl
-kind-is c (chroma-u a b) = refl
-kind-is c (chroma-v a b) = refl
+area-is : (c : Call) {n : ℕ} → Filtered c n → checks.areaOf c n ≡ areaOf (componentOf c n) (callPass c)
+area-is c luma = refl
+area-is c (chroma-u a b) = refl
+area-is c (chroma-v a b) = refl
 
 right-in : (c : Call) (n x : ℕ) → x < unitsOf (gridOf c n) columns → x < w4 c
 right-in c zero x h = omega (arith, chroma-units-le (w4 c) 0 (omega arith))
-right-in c (suc n) x h = omega (arith, chroma-units-le (w4 c) (ssHor (c .layout)) (proper c 1 .ssx-le))
+right-in c (suc n) x h = omega (arith, chroma-units-le (w4 c) (ssHor (c .layout)) (proper c 1 .ss-hor-le))
 
 pub elsewhere : (c : Call) (ls ls′ ms ms′ : List ℕ) → Shaped c → Roomy c (length ls) (length ms) → Elsewhere c ls ls′ ms ms′ → SameTables c ls ls′ ms ms′
 elsewhere c ls ls′ ms ms′ h r x =
     record {
       levels-long = x .levels-long;
       masks-long = x .masks-long;
-      levels = λ n f. record { same = λ a b y _ o. rw (kind-is c f) (x .levels _ (own-level c n a b (plane-le c f) (right-in c n a y) (r .wide) (omega (arith, o .0), o .1))) };
+      levels = λ n f. record { same = λ a b y _ o. rw (area-is c f) (x .levels _ (own-level c n a b (plane-le c f) (right-in c n a y) (r .width) (omega (arith, o .0), o .1))) };
       bits = λ n f. record { same = λ u k j b y z a l. x .bits _ (own-bit c h n u k j b y z a l) };
     }
 
@@ -233,7 +233,7 @@ bit-room c (suc n) len d q k h x y l = omega (arith, edge-bit-in (gridOf c 1) (p
 
 module _ (c : Call) (ls ms : List ℕ) (h : Shaped c) (r : Roomy c (length ls) (length ms)) where
   pub later-level : (d : Pass) (n x y v : ℕ) → n ≤ 2 → x < w4 c → (c .row + 1) * sbUnits (gridOf c n) (sb4 c) ≤ y
-      → SameTables c ls (set ls (levelAt (c .pitch) x y (kindOf (componentOf c n) d)) v) ms ms
+      → SameTables c ls (set ls (levelAt (c .«level_stride») x y (areaOf (componentOf c n) d)) v) ms ms
   later-level d n x y v p q l =
       elsewhere c ls _ ms ms h r
       (record {

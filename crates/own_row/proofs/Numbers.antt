@@ -7,11 +7,11 @@ use Prim.Native.Nat.{ℕ, _<_}
 use native.Mathlib.Omega.{arith}
 use Rattle.loops.specs.Exactly.{Reflects}
 use Rattle.checks.specs.declared.Call.{Call}
-use Rattle.checks.specs.Call.{Lent, samples, passOf, sb4, gridOf, Filtered, Shaped}
+use Rattle.checks.specs.Call.{Lent, samples, callPass, sb4, gridOf, Filtered, Shaped}
 use Rattle.checks.specs.Tests.{levelBad, depthBad, shapeBad, lengthBad, inside, levelsBad, planesBad, gapBad, maskBad, number}
 use Rattle.checks.specs.Faults.{LevelByteFault, SampleFault, stride-short, too-short, too-high, PlaneFault, GapFault, MaskFault}
-use Rattle.checks.proofs.Passed.{shaped, sizes, proper}
-use Rattle.checks.proofs.Faults.{reflects-bytes, reflects-planes-bad, reflects-gap, reflects-mask}
+use Rattle.checks.proofs.TestsPassed.{shaped, sizes, proper}
+use Rattle.checks.proofs.FaultTests.{reflects-bytes, reflects-planes-bad, reflects-gap, reflects-mask}
 use Rattle.own_row.specs.Own.{SameTables, Same}
 use Rattle.own_row.proofs.Bits.{keeps-same}
 
@@ -38,12 +38,12 @@ back s =
 module _ (c : Call) (m m′ : Lent) (s : Same c m m′) where
   level-fault : LevelByteFault c m → LevelByteFault c m′
   level-fault a =
-      let h = a .high in
+      let h = a .height in
       record {
         inside = a .inside;
         plane = a .plane;
         filtered = a .filtered;
-        high = record {
+        height = record {
           x = h .x;
           y = h .y;
           right = h .right;
@@ -101,7 +101,7 @@ gap-fault c m m′ s h a =
       broken = record {
         line = b .line;
         looks = b .looks;
-        breaks = λ k. b .breaks (keeps-same (gridOf c (a .plane)) (proper c (a .plane)) (sb4 c) (c .row) (sizes c h) (passOf c) (m′ .masks) (m .masks) t (b .line) (b .looks) k);
+        breaks = λ k. b .breaks (keeps-same (gridOf c (a .plane)) (proper c (a .plane)) (sb4 c) (c .row) (sizes c h) (callPass c) (m′ .masks) (m .masks) t (b .line) (b .looks) k);
       };
     }
 

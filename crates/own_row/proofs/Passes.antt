@@ -9,27 +9,27 @@ use native.Mathlib.Omega.{arith}
 use lib.Dec.{eqb}
 use lib.ListN.{getD}
 use Rattle.loops.proofs.Runs.{upTo-same}
-use Rattle.plane.specs.Line.{Pass, columns, rows, Piece, piece}
+use Rattle.plane.specs.Line.{Pass, columns, rows, Piece, piece, other}
 use Rattle.plane.specs.Plane.{Plane, class, inner, ruleOf, act, right, down, InRow}
 use Rattle.plane.proofs.Pieces.{inner-some}
 use Rattle.units.specs.Memory.{levelAt}
-use Rattle.edges.specs.Edges.{Proper, other, unitsOf}
+use Rattle.edges.specs.Edges.{Proper, unitsOf}
 use Rattle.gap.specs.Numbers.{sbUnits}
 use Rattle.view.specs.Level.{levelUsed}
 use Rattle.walk.specs.Walk.{lenOf}
 use Rattle.filter.specs.declared.Component.{Component}
-use Rattle.filter.specs.Filter.{Tables, gridOf, kindOf, before, levelOf, changeAt, planeOf, firstAcross, firstAlong, across, along, lineOf, sweepOf}
-use Rattle.frames.proofs.Kepts.{Size, in-frame}
+use Rattle.filter.specs.Filter.{Tables, gridOf, areaOf, before, levelOf, changeAt, planeOf, firstAcross, firstAlong, across, along, lineOf, sweepOf}
+use Rattle.frames.proofs.GapKept.{Size, in-frame}
 use Rattle.own_row.specs.Own.{SameLevels, SameBits}
 use Rattle.own_row.proofs.Bits.{edge-same}
 
 -- ---- a plane by two tables of the same depth and limits
 
 abbrev pub Levels : Component → Pass → ℕ → List ℕ → List ℕ → Type 0
-Levels c d k = SameLevels (gridOf c) d (c .sb4 .0) k (c .pitch) (kindOf c d)
+Levels c d k = SameLevels (gridOf c) d (c .sb4 .0) k (c .«level_stride») (areaOf c d)
 
 abbrev levelByte : Component → Pass → List ℕ → Piece → ℕ
-levelByte c d ls p = getD ls (levelAt (c .pitch) (right d p) (down d p) (kindOf c d)) 0
+levelByte c d ls p = getD ls (levelAt (c .«level_stride») (right d p) (down d p) (areaOf c d)) 0
 
 -- a piece's own level byte, and that of the unit before the edge: in rows that is of the line above
 unit-levels : (c : Component) (d : Pass) (k : ℕ) (ls ls′ : List ℕ) → Levels c d k ls ls′ → (p : Piece) → 0 < p .0 → p .0 < unitsOf (gridOf c) d
@@ -77,5 +77,5 @@ module _ (c : Component) (proper : Proper (gridOf c)) (size : Size (c .sb4 .0)) 
     pub sweep-same : (x : List ℕ) → sweepOf (planeOf c t) d k x ≡ sweepOf (planeOf c t′) d k x
     unfolding sweepOf lineOf
     sweep-same =
-        upTo-same _ _ (planeOf c t .groups) (λ g _. upTo-same _ _ (across (planeOf c t) d)
+        upTo-same _ _ (planeOf c t .records) (λ g _. upTo-same _ _ (across (planeOf c t) d)
         (λ a h. upTo-same _ _ (along (planeOf c t) d) (λ v w. act-same _ (in-row (planeOf c t) k d g a v h w))))

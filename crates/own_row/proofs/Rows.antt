@@ -21,22 +21,22 @@ use Rattle.edges.specs.Edges.{Proper}
 use Rattle.filter.specs.Filter.{sweepOf}
 use Rattle.filter.proofs.Sweeps as sweeps
 use Rattle.checks.specs.declared.Call.{Call}
-use Rattle.checks.specs.Call.{Lent, samples, passOf, sb4, ssx, gridOf, strideOf, kindOf, chromaOn, Filtered, luma, chroma-u, chroma-v}
+use Rattle.checks.specs.Call.{Lent, samples, callPass, sb4, ss-hor, gridOf, strideOf, areaOf, chromaOn, Filtered, luma, chroma-u, chroma-v}
 use Rattle.checks.specs.Tests.{number}
-use Rattle.checks.proofs.Passed.{sizes, ssx-le, proper}
+use Rattle.checks.proofs.TestsPassed.{sizes, plane-ss-hor-le, proper}
 use Rattle.checks.proofs.Accepted.{accepted-shape, accepted-stride}
-use Rattle.checks.proofs.Faults.{reflects-on}
+use Rattle.checks.proofs.FaultTests.{reflects-on}
 use Rattle.apply.specs.Apply.{Limits, componentOf, tablesOf, planeAt, threeOf, FilterAnswer}
 use Rattle.apply.specs.Promises.{passed}
 use Rattle.apply.proofs.Laws as apply
-use Rattle.apply.proofs.Readies.{grid-is, ready}
+use Rattle.apply.proofs.ReadyPlanes.{grid-is, ready}
 use Rattle.frames.specs.Within.{Within, Agree}
 use Rattle.frames.proofs.Regions.{fair, sweep-outside, sweep-inside}
 use Rattle.own_row.specs.Own.{SameLevels, SameBits, Seen, SameSamples, SameTables, Same, left}
 use Rattle.own_row.proofs.Numbers.{number-same}
 use Rattle.own_row.proofs.Passes.{Levels, sweep-same}
 
-passed-is : (c : Call) (P : Plane) (x : List ℕ) → passed c P x ≡ sweepOf P (passOf c) (c .row) x
+passed-is : (c : Call) (P : Plane) (x : List ℕ) → passed c P x ≡ sweepOf P (callPass c) (c .row) x
 passed-is c P x = go (c .rowwise)
   where
     go : (b : Bool) → cond b (rowsOf P (c .row) x) (colsOf P (c .row) x) ≡ sweepOf P (cond b rows columns) (c .row) x
@@ -44,8 +44,8 @@ passed-is c P x = go (c .rowwise)
     go false = sym (sweeps.promises .columns-are P (c .row) x)
 
 -- the tables of a plane, as the filter knows it and as the numbers do
-own-levels : (c : Call) {n : ℕ} → Filtered c n → (ls ls′ : List ℕ) → SameLevels (gridOf c n) (passOf c) (sb4 c) (c .row) (c .pitch) (kindOf c n) ls ls′
-    → Levels (componentOf c n) (passOf c) (c .row) ls ls′
+own-levels : (c : Call) {n : ℕ} → Filtered c n → (ls ls′ : List ℕ) → SameLevels (gridOf c n) (callPass c) (sb4 c) (c .row) (c .«level_stride») (areaOf c n) ls ls′
+    → Levels (componentOf c n) (callPass c) (c .row) ls ls′
 own-levels c luma ls ls′ s = s
 own-levels c (chroma-u a b) ls ls′ s = s
 own-levels c (chroma-v a b) ls ls′ s = s
@@ -53,24 +53,24 @@ own-levels c (chroma-v a b) ls ls′ s = s
 -- ---- the samples that a call sees, by their index
 
 module _ (c : Call) (l : Limits) (m : Lent) (n : ℕ) where
-  within-seen : (i : ℕ) → Within (planeAt c l m n) 8 (passOf c) (c .row) i → Seen c n i
+  within-seen : (i : ℕ) → Within (planeAt c l m n) 8 (callPass c) (c .row) i → Seen c n i
   within-seen i w =
       record {
         x = i % strideOf c n;
         y = i / strideOf c n;
         at = sym (div-add-mod' i (strideOf c n));
-        right = rw (stored-records (c .width .0) (ssx c n) (ssx-le c n)) (w .right);
+        right = rw (stored-records (c .width .0) (ss-hor c n) (plane-ss-hor-le c n)) (w .right);
         from = w .from;
         to = rw add-one (w .to);
       }
 
-  seen-within : stored (c .width .0) (ssx c n) ≤ strideOf c n → (i : ℕ) → Seen c n i → Within (planeAt c l m n) 8 (passOf c) (c .row) i
+  seen-within : stored (c .width .0) (ss-hor c n) ≤ strideOf c n → (i : ℕ) → Seen c n i → Within (planeAt c l m n) 8 (callPass c) (c .row) i
   seen-within h i s =
       let x : s .x < strideOf c n = omega (arith, s .right) in
       let a : i % strideOf c n ≡ s .x = ap (λ (j : ℕ). j % strideOf c n) (s .at) ∙ digits-mod (s .y) x in
       let b : i / strideOf c n ≡ s .y = ap (λ (j : ℕ). j / strideOf c n) (s .at) ∙ digits-div (s .y) x in
       record {
-        right = rw a (rw (stored-records (c .width .0) (ssx c n) (ssx-le c n)) at (s .right));
+        right = rw a (rw (stored-records (c .width .0) (ss-hor c n) (plane-ss-hor-le c n)) at (s .right));
         from = rw b (s .from);
         to = rw b (rw add-one at (s .to));
       }
@@ -82,9 +82,9 @@ module _ (c : Call) (l : Limits) (m : Lent) (e : number c m ≡ 0) {n : ℕ} (f 
       → passed c (planeAt c l m n) x ≡ passed c (planeAt c l m′ n) x
   pass-same m′ s x =
       passed-is c (planeAt c l m n) x
-      ∙ sweep-same (componentOf c n) (subst⁻¹ Proper (grid-is c f) (proper c n)) (sizes c (accepted-shape c m e)) (passOf c) (c .row) (c .depth) (l .e) (l .i)
+      ∙ sweep-same (componentOf c n) (subst⁻¹ Proper (grid-is c f) (proper c n)) (sizes c (accepted-shape c m e)) (callPass c) (c .row) (c .depth) (l .e) (l .i)
       (m .levels) (m′ .levels) (m .masks) (m′ .masks) (own-levels c f _ _ (s .levels n f))
-      (subst⁻¹ (λ G. SameBits G (passOf c) (sb4 c) (c .row) (m .masks) (m′ .masks)) (grid-is c f) (s .bits n f)) x
+      (subst⁻¹ (λ G. SameBits G (callPass c) (sb4 c) (c .row) (m .masks) (m′ .masks)) (grid-is c f) (s .bits n f)) x
       ∙ sym (passed-is c (planeAt c l m′ n) x)
 
   pass-sees : (x y : List ℕ) → SameSamples c n x y → SameSamples c n (passed c (planeAt c l m n) x) (passed c (planeAt c l m n) y)
@@ -92,17 +92,17 @@ module _ (c : Call) (l : Limits) (m : Lent) (e : number c m ≡ 0) {n : ℕ} (f 
       rw (passed-is c (planeAt c l m n) x, passed-is c (planeAt c l m n) y)
       (record { long = a .long; same = λ i h. a .same i (seen-within c l m n (accepted-stride c m e f) i h) })
     where
-      a : Agree (planeAt c l m n) 8 (passOf c) (c .row) (sweepOf (planeAt c l m n) (passOf c) (c .row) x) (sweepOf (planeAt c l m n) (passOf c) (c .row) y)
+      a : Agree (planeAt c l m n) 8 (callPass c) (c .row) (sweepOf (planeAt c l m n) (callPass c) (c .row) x) (sweepOf (planeAt c l m n) (callPass c) (c .row) y)
       a =
           let r = ready c l m e f in
-          sweep-inside (componentOf c n) (tablesOf c l m) (length (samples m n)) (r .stored) (c .row) (passOf c) (r .fit) 8 (fair (eqb n 0) .reach .any) x y
+          sweep-inside (componentOf c n) (tablesOf c l m) (length (samples m n)) (r .stored) (c .row) (callPass c) (r .fit) 8 (fair (eqb n 0) .reach .any) x y
           (record { long = s .long; same = λ i w. s .same i (within-seen c l m n i w) })
 
   pass-keeps : (x : List ℕ) (i : ℕ) → ¬ Seen c n i → getD (passed c (planeAt c l m n) x) i 0 ≡ getD x i 0
   pass-keeps x i h =
       let r = ready c l m e f in
       ap (λ z. getD z i 0) (passed-is c (planeAt c l m n) x)
-      ∙ sweep-outside (componentOf c n) (tablesOf c l m) (length (samples m n)) (r .stored) (c .row) (passOf c) (r .fit) 8 few x i (λ w. h (within-seen c l m n i w))
+      ∙ sweep-outside (componentOf c n) (tablesOf c l m) (length (samples m n)) (r .stored) (c .row) (callPass c) (r .fit) 8 few x i (λ w. h (within-seen c l m n i w))
     where
       few : (cls : ℕ) → planeAt c l m n .widths .writes cls ≤ 8
       few cls = let w = fair (eqb n 0) in omega (arith, w .fewer cls, w .reach .any cls)
@@ -111,7 +111,7 @@ module _ (c : Call) (l : Limits) (m : Lent) (e : number c m ≡ 0) {n : ℕ} (f 
 
 module _ (c : Call) where
   abbrev Plain : Type 0
-  Plain = (¬ (c .layout ≡ 400)) × (¬ ((c .levelu ≡ 0) × (c .levelv ≡ 0)))
+  Plain = (¬ (c .layout ≡ 400)) × (¬ ((c .«level_u» ≡ 0) × (c .«level_v» ≡ 0)))
 
   plain-u : Filtered c 1 → Plain
   plain-u (chroma-u a b) = (a, b)
@@ -155,7 +155,9 @@ module _ (c : Call) (l : Limits) (m : Lent) (r : ℕ) (s : Three (List ℕ)) (a 
   pub others : (n i : ℕ) → ¬ Seen c n i → getD (samples (left m s) n) i 0 ≡ getD (samples m n) i 0
   others zero i h = left-keeps luma i h
   others (suc zero) i h = by-cases (dec-u c) (λ f. left-keeps f i h) (λ n. ap (λ z. getD z i 0) (apply.promises .each c l m r s a .u-stays n))
-  others (suc (suc n)) i h = by-cases (dec-v c) (λ f. left-keeps f i (λ x. h (record { x = x .x; y = x .y; at = x .at; right = x .right; from = x .from; to = x .to }))) (λ n. ap (λ z. getD z i 0) (apply.promises .each c l m r s a .v-stays n))
+  others (suc (suc n)) i h =
+      by-cases (dec-v c) (λ f. left-keeps f i (λ x. h (record { x = x .x; y = x .y; at = x .at; right = x .right; from = x .from; to = x .to })))
+      (λ n. ap (λ z. getD z i 0) (apply.promises .each c l m r s a .v-stays n))
 
 -- ---- two answers
 

@@ -7,13 +7,13 @@ use mathlib.Core.Path.{_≡_}
 use Prim.Native.Nat.{ℕ, _≤_, _<_}
 use lib.ListN.{length, getD}
 use Rattle.bits.specs.Mark.{isSet}
-use Rattle.plane.specs.Line.{Pass, Piece}
+use Rattle.plane.specs.Line.{Pass, Piece, other, passNo}
 use Rattle.plane.specs.Plane.{down}
 use Rattle.units.specs.Memory.{levelAt}
-use Rattle.edges.specs.Edges.{other, passNo, unitsOf, classes, edgeBit}
-use Rattle.filter.specs.Filter.{kindOf}
+use Rattle.edges.specs.Edges.{unitsOf, classes, edgeBit}
+use Rattle.filter.specs.Filter.{areaOf}
 use Rattle.checks.specs.declared.Call.{Call}
-use Rattle.checks.specs.Call.{passOf, w4, sb4, gridOf}
+use Rattle.checks.specs.Call.{callPass, w4, sb4, gridOf}
 use Rattle.apply.specs.Apply.{componentOf}
 use Rattle.own_row.specs.Own.{OwnLine}
 
@@ -24,8 +24,8 @@ pub record OtherLevel (c : Call) (i : ℕ) : Type 0 where
   pub y : ℕ
   pub a-plane : plane ≤ 2
   pub right : x < w4 c
-  pub line : ¬ OwnLine (gridOf c plane) (sb4 c) (c .row) (passNo (passOf c)) y
-  pub at : i ≡ levelAt (c .pitch) x y (kindOf (componentOf c plane) pass)
+  pub line : ¬ OwnLine (gridOf c plane) (sb4 c) (c .row) (passNo (callPass c)) y
+  pub at : i ≡ levelAt (c .«level_stride») x y (areaOf (componentOf c plane) pass)
 
 pub record OtherEdge (c : Call) (e : ℕ) : Type 0 where
   pub plane : ℕ

@@ -1,7 +1,7 @@
 -- What document 01 lets a call that filters look at ("Numbers returned", "Gap rule", "One line of samples"), as what two lendings have in common.
 --   SameBits G d sb4 k ..     the mask bits of row k: every class, in columns the row's halves of all stored units, in rows all halves of the row's units
 --   OwnLine G sb4 k a y       the unit line y is of row k, or of the a above it
---   SameLevels G d sb4 k ..   the level bytes of a kind at the units of row k and, for rows, of the unit line above it
+--   SameLevels G d sb4 k ..   the level bytes of a area at the units of row k and, for rows, of the unit line above it
 --   Seen c n i                the sample at index i of plane n stands in the row's stored lines or, for rows, in the 8 above
 --   SameSamples c n ..        these samples
 --   SameTables c ..           the level bytes of this pass and the bits, of each plane that it filters
@@ -12,16 +12,16 @@ use mathlib.Core.Path.{_≡_}
 use Prim.Native.Nat.{ℕ, _+_, _*_, _≤_, _<_}
 use lib.ListN.{length, getD}
 use Rattle.bits.specs.Mark.{isSet}
-use Rattle.plane.specs.Line.{Pass, columns, rows}
+use Rattle.plane.specs.Line.{Pass, columns, rows, passNo}
 use Rattle.plane.specs.Three.{Three}
 use Rattle.units.specs.Frame.{stored}
 use Rattle.units.specs.Memory.{levelAt}
 use Rattle.units.specs.Units.{chromaUnit}
-use Rattle.edges.specs.Edges.{Grid, passNo, unitsOf, classes}
+use Rattle.edges.specs.Edges.{Grid, unitsOf, classes}
 use Rattle.gap.specs.Numbers.{sbUnits, halfBit}
 use Rattle.gap.specs.Promises.{Across, Along}
 use Rattle.checks.specs.declared.Call.{Call}
-use Rattle.checks.specs.Call.{Lent, samples, passOf, sb4, ssx, ssy, gridOf, strideOf, kindOf, Filtered}
+use Rattle.checks.specs.Call.{Lent, samples, callPass, sb4, ss-hor, ss-ver, gridOf, strideOf, areaOf, Filtered}
 
 pub record SameBits (G : Grid) (d : Pass) (sb4 k : ℕ) (ms ms′ : List ℕ) : Type 0 where
   pub same : (u class j b : ℕ) → Across G d sb4 k u → Along G d sb4 k j → class < classes G → b < 16
@@ -30,17 +30,17 @@ pub record SameBits (G : Grid) (d : Pass) (sb4 k : ℕ) (ms ms′ : List ℕ) : 
 abbrev pub OwnLine : Grid → ℕ → ℕ → ℕ → ℕ → Type 0
 OwnLine G sb4 k a y = (k * sbUnits G sb4 ≤ y + a) × (y < (k + 1) * sbUnits G sb4)
 
-pub record SameLevels (G : Grid) (d : Pass) (sb4 k pitch kind : ℕ) (ls ls′ : List ℕ) : Type 0 where
+pub record SameLevels (G : Grid) (d : Pass) (sb4 k level-stride area : ℕ) (ls ls′ : List ℕ) : Type 0 where
   pub same : (x y : ℕ) → x < unitsOf G columns → y < unitsOf G rows → OwnLine G sb4 k (passNo d) y
-      → getD ls (levelAt pitch x y kind) 0 ≡ getD ls′ (levelAt pitch x y kind) 0
+      → getD ls (levelAt level-stride x y area) 0 ≡ getD ls′ (levelAt level-stride x y area) 0
 
 pub record Seen (c : Call) (n i : ℕ) : Type 0 where
   pub x : ℕ
   pub y : ℕ
   pub at : i ≡ y * strideOf c n + x
-  pub right : x < stored (c .width .0) (ssx c n)
-  pub from : 4 * (c .row * chromaUnit (ssy c n) (sb4 c)) ≤ y + 8 * passNo (passOf c)
-  pub to : y < 4 * ((c .row + 1) * chromaUnit (ssy c n) (sb4 c))
+  pub right : x < stored (c .width .0) (ss-hor c n)
+  pub from : 4 * (c .row * chromaUnit (ss-ver c n) (sb4 c)) ≤ y + 8 * passNo (callPass c)
+  pub to : y < 4 * ((c .row + 1) * chromaUnit (ss-ver c n) (sb4 c))
 
 pub record SameSamples (c : Call) (n : ℕ) (s s′ : List ℕ) : Type 0 where
   pub long : length s ≡ length s′
@@ -50,8 +50,8 @@ pub record SameSamples (c : Call) (n : ℕ) (s s′ : List ℕ) : Type 0 where
 pub record SameTables (c : Call) (ls ls′ ms ms′ : List ℕ) : Type 0 where
   pub levels-long : length ls ≡ length ls′
   pub masks-long : length ms ≡ length ms′
-  pub levels : (n : ℕ) → Filtered c n → SameLevels (gridOf c n) (passOf c) (sb4 c) (c .row) (c .pitch) (kindOf c n) ls ls′
-  pub bits : (n : ℕ) → Filtered c n → SameBits (gridOf c n) (passOf c) (sb4 c) (c .row) ms ms′
+  pub levels : (n : ℕ) → Filtered c n → SameLevels (gridOf c n) (callPass c) (sb4 c) (c .row) (c .«level_stride») (areaOf c n) ls ls′
+  pub bits : (n : ℕ) → Filtered c n → SameBits (gridOf c n) (callPass c) (sb4 c) (c .row) ms ms′
 
 pub record Same (c : Call) (m m′ : Lent) : Type 0 where
   pub tables : SameTables c (m .levels) (m′ .levels) (m .masks) (m′ .masks)

@@ -8,13 +8,13 @@ use lib.ListN.{length, getD, set}
 use Rattle.loops.specs.Exactly.{Exactly}
 use Rattle.loops.specs.Run.{upTo, run, All}
 use Rattle.bits.specs.Mark.{mark}
-use Rattle.plane.specs.Line.{Pass, columns, rows, Piece}
+use Rattle.plane.specs.Line.{Pass, columns, rows, Piece, other}
 use Rattle.plane.specs.Plane.{rasterOf, down}
 use Rattle.plane.specs.Three.{Three}
 use Rattle.units.specs.Memory.{levelAt}
-use Rattle.edges.specs.Edges.{other, unitsOf, classes, edgeBit}
+use Rattle.edges.specs.Edges.{unitsOf, classes, edgeBit}
 use Rattle.gap.specs.Numbers.{sbUnits}
-use Rattle.filter.specs.Filter.{kindOf}
+use Rattle.filter.specs.Filter.{areaOf}
 use Rattle.checks.specs.declared.Call.{Call}
 use Rattle.checks.specs.Call.{Lent, samples, w4, sb4, gridOf, Shaped, Roomy}
 use Rattle.checks.specs.Tests.{number}
@@ -69,7 +69,7 @@ pub record Promises : Type 0 where
   pub elsewhere : (c : Call) (ls ls′ ms ms′ : List ℕ) → Shaped c → Roomy c (length ls) (length ms) → Elsewhere c ls ls′ ms ms′ → SameTables c ls ls′ ms ms′
   -- such as a level byte or an edge of a later row
   pub later-level : (c : Call) (ls ms : List ℕ) → Shaped c → Roomy c (length ls) (length ms) → (d : Pass) (n x y v : ℕ) → n ≤ 2 → x < w4 c
-      → (c .row + 1) * sbUnits (gridOf c n) (sb4 c) ≤ y → SameTables c ls (set ls (levelAt (c .pitch) x y (kindOf (componentOf c n) d)) v) ms ms
+      → (c .row + 1) * sbUnits (gridOf c n) (sb4 c) ≤ y → SameTables c ls (set ls (levelAt (c .«level_stride») x y (areaOf (componentOf c n) d)) v) ms ms
   pub later-edge : (c : Call) (ls ms : List ℕ) → Shaped c → Roomy c (length ls) (length ms) → (d : Pass) (n : ℕ) (p : Piece) (k : ℕ)
       → p .0 < unitsOf (gridOf c n) d → p .1 < unitsOf (gridOf c n) (other d) → k < classes (gridOf c n)
       → (c .row + 1) * sbUnits (gridOf c n) (sb4 c) ≤ down d p → SameTables c ls ls ms (mark ms (edgeBit (gridOf c n) d p k))

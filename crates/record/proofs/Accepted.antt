@@ -14,12 +14,13 @@ use Rattle.mask_edges.specs.Folds.{stores}
 use Rattle.mask_edges.specs.Recording as recording
 use Rattle.mask_edges.proofs.Theorems as mask-edges
 use Rattle.block.specs.declared.Block.{Block}
-use Rattle.block.specs.Block.{w4, ssx, ssy, bw4, bh4, cbw4, cbh4, seesLuma, seesChroma, Lent, lent}
+use Rattle.block.specs.Block.{w4, ss-hor, ss-ver, bw4, bh4, cbw4, cbh4, seesLuma, seesChroma, Lent, lent}
 use Rattle.block.specs.Tests.{number}
-use Rattle.record.specs.Record.{cbx4, cby4, lumaLevels, chromaLevels, intraMasks, interMasks, lumaMasks, chromaMasks, intraAbove, intraLeft, interAbove, interLeft, lumaAbove, lumaLeft, chromaAbove, chromaLeft, Fitting}
+use Rattle.record.specs.Record.{cbx4, cby4, lumaLevels, chromaLevels, intraMasks, interMasks, lumaMasks, chromaMasks, intraAbove, intraLeft, interAbove}
+use Rattle.record.specs.Record.{interLeft, lumaAbove, lumaLeft, chromaAbove, chromaLeft, Fitting}
 use Rattle.record.specs.Recorded.{lumaBlock, chromaBlock, inFrame, lumaEdge, chromaEdge, Masks, Stored}
 use Rattle.record.proofs.Rooms.{luma-seen, luma-fits, luma-record, luma-covers, chroma-seen, chroma-tx, chroma-place, chroma-record-in}
-use Rattle.record.proofs.Sounds.{fitting, levels-long, masks-long, luma-long, chroma-long}
+use Rattle.record.proofs.SoundBlocks.{fitting, levels-long, masks-long, luma-long, chroma-long}
 use Rattle.record.proofs.Frames.{part-long, Added, added}
 use Rattle.record.proofs.Fills.{block-levels}
 
@@ -36,9 +37,9 @@ either-long : (i : Bool) (c d e : List ℕ) → length c ≡ length e → length
 either-long true c d e p q = p
 either-long false c d e p q = q
 
-module _ (b : Block) (stride : ℕ) (m : Lent) (ok : number b stride m ≡ 0) where
+module _ (b : Block) (level-stride : ℕ) (m : Lent) (ok : number b level-stride m ≡ 0) where
   s : Fitting b
-  s = fitting b stride m ok
+  s = fitting b level-stride m ok
 
   abbrev at : ℕ
   at = recordOf (w4 b) (b .x .0) (b .y .0)
@@ -50,16 +51,16 @@ module _ (b : Block) (stride : ℕ) (m : Lent) (ok : number b stride m ≡ 0) wh
 
   module _ (e : seesLuma b ≡ true) where
     luma-in : 640 * at + 640 ≤ length (m .masks)
-    luma-in = omega (arith, luma-record b s e, masks-long b stride m ok)
+    luma-in = omega (arith, luma-record b s e, masks-long b level-stride m ok)
 
     luma-room : Room (b .y .0 % 32) (b .x .0 % 32) (bw4 b) (bh4 b) 0 0 (length (part-of (m .masks))) (length (m .above)) (length (m .left))
     luma-room =
         record {
-          wide = (luma-seen b s e .0, luma-fits b s e .0);
-          high = (luma-seen b s e .1, luma-fits b s e .1);
+          width = (luma-seen b s e .0, luma-fits b s e .0);
+          height = (luma-seen b s e .1, luma-fits b s e .1);
           record-words = omega (arith, part-long at (λ l. l) (m .masks) luma-in);
-          above-units = luma-long b stride m ok e .0;
-          left-units = luma-long b stride m ok e .1;
+          above-units = luma-long b level-stride m ok e .0;
+          left-units = luma-long b level-stride m ok e .1;
         }
 
   module _ (tm : List ℕ) where
@@ -94,33 +95,38 @@ module _ (b : Block) (stride : ℕ) (m : Lent) (ok : number b stride m ≡ 0) wh
   module _ (ms : List ℕ) (same : length ms ≡ length (m .masks)) where
     module _ (e : seesChroma b ≡ true) where
       chroma-in : 640 * at + 640 ≤ length ms
-      chroma-in = omega (arith, chroma-record-in b s e, masks-long b stride m ok)
+      chroma-in = omega (arith, chroma-record-in b s e, masks-long b level-stride m ok)
 
-      chroma-room : Room (cby4 b) (cbx4 b) (cbw4 b) (cbh4 b) (ssx b) (ssy b) (length (part-of ms)) (length (m .above-uv)) (length (m .left-uv))
+      chroma-room : Room (cby4 b) (cbx4 b) (cbw4 b) (cbh4 b) (ss-hor b) (ss-ver b) (length (part-of ms)) (length (m .above-uv)) (length (m .left-uv))
       chroma-room =
           record {
-            wide = (chroma-seen b s e .0, chroma-place b s e .0);
-            high = (chroma-seen b s e .1, chroma-place b s e .1);
+            width = (chroma-seen b s e .0, chroma-place b s e .0);
+            height = (chroma-seen b s e .1, chroma-place b s e .1);
             record-words = omega (arith, part-long at (λ l. l) ms chroma-in);
-            above-units = chroma-long b stride m ok e .0;
-            left-units = chroma-long b stride m ok e .1;
+            above-units = chroma-long b level-stride m ok e .0;
+            left-units = chroma-long b level-stride m ok e .1;
           }
 
-    chroma-added : Added (b .chroma) (chromaBlock b m) (inFrame b (chromaBits (ssx b) (ssy b))) ms (chromaMasks b (m .above-uv) (m .left-uv) ms)
+    chroma-added : Added (b .chroma) (chromaBlock b m) (inFrame b (chromaBits (ss-hor b) (ss-ver b))) ms (chromaMasks b (m .above-uv) (m .left-uv) ms)
     chroma-added =
-        added (chromaBlock b m) (chromaBits (ssx b) (ssy b)) at _ ms (b .chroma)
-        (λ e. (chroma-in e, mask-edges.promises .chroma _ _ _ _ (b .skip) (b .uvtx) (ssx b) (ssy b) (m .above-uv) (m .left-uv) _ (chroma-room e) (chroma-tx b s e) (ss-hor-le (b .layout)) (ss-ver-le (b .layout)) .0))
+        added (chromaBlock b m) (chromaBits (ss-hor b) (ss-ver b)) at _ ms (b .chroma)
+        (λ e. (
+          chroma-in e,
+          mask-edges.promises .chroma _ _ _ _ (b .skip) (b .uvtx) (ss-hor b) (ss-ver b) (m .above-uv) (m .left-uv) _ (chroma-room e) (chroma-tx b s e)
+              (ss-hor-le (b .layout)) (ss-ver-le (b .layout)) .0,
+        ))
 
   chroma-contexts : seesChroma b ≡ true → Contexts (chromaBlock b m) (chromaAbove b (m .above-uv)) (chromaLeft b (m .left-uv))
   chroma-contexts e =
-      rw e (mask-edges.promises .chroma _ _ _ _ (b .skip) (b .uvtx) (ssx b) (ssy b) (m .above-uv) (m .left-uv) (part-of (m .masks)) (chroma-room (m .masks) refl e) (chroma-tx b s e) (ss-hor-le (b .layout)) (ss-ver-le (b .layout)) .1)
+      rw e (mask-edges.promises .chroma _ _ _ _ (b .skip) (b .uvtx) (ss-hor b) (ss-ver b) (m .above-uv) (m .left-uv) (part-of (m .masks)) (chroma-room (m .masks) refl e)
+      (chroma-tx b s e) (ss-hor-le (b .layout)) (ss-ver-le (b .layout)) .1)
 
   -- ---- all
 
   module _ (values tm : List ℕ) where
     abbrev pub after : Lent
     after =
-        lent (chromaLevels b stride values (lumaLevels b stride values (m .levels)))
+        lent (chromaLevels b level-stride values (lumaLevels b level-stride values (m .levels)))
         (chromaMasks b (m .above-uv) (m .left-uv) (lumaMasks b tm (m .above) (m .left) (m .masks)))
         (lumaAbove b tm (m .above))
         (lumaLeft b tm (m .left))
@@ -133,10 +139,10 @@ module _ (b : Block) (stride : ℕ) (m : Lent) (ok : number b stride m ≡ 0) wh
         let C = chroma-added (lumaMasks b tm (m .above) (m .left) (m .masks)) (L .long) in
         record { long = C .long ∙ L .long; bits = λ e. C .bits e ∙ rw (L .bits e) (or-assoc (isSet (m .masks) e) (lumaEdge b tm m e) (chromaEdge b m e)) }
 
-    pub stored : Stored b stride values tm m after
+    pub stored : Stored b level-stride values tm m after
     stored =
         record {
-          levels = block-levels b s stride values (m .levels) (levels-long b stride m ok .0) (levels-long b stride m ok .1);
+          levels = block-levels b s level-stride values (m .levels) (levels-long b level-stride m ok .0) (levels-long b level-stride m ok .1);
           masks = masks;
           luma = luma-contexts tm;
           luma-stay = λ e. rw e (either (b .inter) (m .above), either (b .inter) (m .left));

@@ -21,8 +21,8 @@ same m n e f g h i j = parts (m .levels) (m .masks) (m .above) (m .left) (m .abo
     parts : (ls ms a l u v : List ℕ) → ls ≡ n .levels → ms ≡ n .masks → a ≡ n .above → l ≡ n .left → u ≡ n .above-uv → v ≡ n .left-uv → lent ls ms a l u v ≡ n
     parts ls ms a l u v e f g h i j = rw (e, f, g, h, i, j) refl
 
-module _ {b : Block} {stride r : ℕ} {values tm : List ℕ} {before after : Lent} (a : RecordAnswer b stride values tm r before after) where
-  number-is : {k : ℕ} {P : Type 0} → Exactly (number b stride before ≡ k) P → Exactly (r ≡ k) P
+module _ {b : Block} {level-stride r : ℕ} {values tm : List ℕ} {before after : Lent} (a : RecordAnswer b level-stride values tm r before after) where
+  number-is : {k : ℕ} {P : Type 0} → Exactly (number b level-stride before ≡ k) P → Exactly (r ≡ k) P
   number-is e = record { only = λ p. e .only (sym (a .code) ∙ p); always = λ p. a .code ∙ e .always p }
 
   kept : ¬ (r ≡ 0) → after ≡ before
@@ -30,21 +30,22 @@ module _ {b : Block} {stride r : ℕ} {values tm : List ℕ} {before after : Len
       let z = ne-eqb r 0 n in
       same after before (rw z at (a .levels)) (rw z at (a .masks)) (rw z at (a .above)) (rw z at (a .left)) (rw z at (a .above-uv)) (rw z at (a .left-uv))
 
-  done : r ≡ 0 → Stored b stride values tm before after
+  done : r ≡ 0 → Stored b level-stride values tm before after
   done e =
       let ok = sym (a .code) ∙ e in
       let z = eq-eqb r 0 e in
-      let p = same after (accepted.after b stride before ok values tm) (rw z at (a .levels)) (rw z at (a .masks)) (rw z at (a .above)) (rw z at (a .left)) (rw z at (a .above-uv)) (rw z at (a .left-uv)) in
-      rw p (accepted.stored b stride before ok values tm)
+      let p = same after (accepted.after b level-stride before ok values tm) (rw z at (a .levels)) (rw z at (a .masks)) (rw z at (a .above)) (rw z at (a .left))
+      (rw z at (a .above-uv)) (rw z at (a .left-uv)) in
+      rw p (accepted.stored b level-stride before ok values tm)
 
-  promised : Promised b stride values tm r before after
+  promised : Promised b level-stride values tm r before after
   promised =
       record {
-        four = number-is (exactly-4 b stride before);
-        five = number-is (exactly-5 b stride before);
-        six = number-is (exactly-6 b stride before);
-        seven = number-is (exactly-7 b stride before);
-        zero = number-is (exactly-0 b stride before);
+        four = number-is (exactly-4 b level-stride before);
+        five = number-is (exactly-5 b level-stride before);
+        six = number-is (exactly-6 b level-stride before);
+        seven = number-is (exactly-7 b level-stride before);
+        zero = number-is (exactly-0 b level-stride before);
         refused = kept;
         accepted = done;
       }
@@ -52,7 +53,7 @@ module _ {b : Block} {stride r : ℕ} {values tm : List ℕ} {before after : Len
 pub promises : Promises
 promises =
     record {
-      unique = λ b stride values tm r q before m n f g.
+      unique = λ b level-stride values tm r q before m n f g.
           let e = f .code ∙ sym (g .code) in (
             e,
             same m n
@@ -63,5 +64,5 @@ promises =
                 (f .above-uv ∙ rw e (sym (g .above-uv)))
                 (f .left-uv ∙ rw e (sym (g .left-uv))),
           );
-      each = λ b stride values tm r before after a. promised a;
+      each = λ b level-stride values tm r before after a. promised a;
     }

@@ -17,7 +17,7 @@ use Rattle.units.specs.Units.{chromaUnit}
 use Rattle.units.specs.Memory.{levelAt}
 use Rattle.units.proofs.Places.{chroma-units-le, ss-hor-le}
 use Rattle.block.specs.declared.Block.{Block}
-use Rattle.block.specs.Block.{w4, h4, ssx, ssy, bw4, bh4, cbw4, cbh4, seesChroma}
+use Rattle.block.specs.Block.{w4, h4, ss-hor, ss-ver, bw4, bh4, cbw4, cbh4, seesChroma}
 use Rattle.record.specs.Record.{valueOf, fillRow, fillLevels, lumaLevels, chromaLevels, Fitting}
 use Rattle.record.specs.Recorded.{Seen, luma, chroma, Levels}
 use Rattle.record.proofs.Rooms.{luma-cut, luma-lines, chroma-cut, chroma-lines}
@@ -59,59 +59,59 @@ module _ (f : ℕ → ℕ) where
 
   -- ---- rows one after another
 
-  module _ (at stride w : ℕ) (l : List ℕ) where
-    length-rows : (h : ℕ) → length (fillLevels at stride w h (f 0) (f 1) l) ≡ length l
+  module _ (at level-stride w : ℕ) (l : List ℕ) where
+    length-rows : (h : ℕ) → length (fillLevels at level-stride w h (f 0) (f 1) l) ≡ length l
     unfolding fillLevels
     length-rows zero = refl
-    length-rows (suc h) = length-row (at + 4 * (h * stride)) (f 0) (f 1) w (fillLevels at stride w h (f 0) (f 1) l) ∙ length-rows h
+    length-rows (suc h) = length-row (at + 4 * (h * level-stride)) (f 0) (f 1) w (fillLevels at level-stride w h (f 0) (f 1) l) ∙ length-rows h
 
-    rows-stored : (h i j k : ℕ) → w ≤ stride → ((j : ℕ) → j < h → at + 4 * (j * stride + w) ≤ length l + 2) → i < w → j < h → k < 2
-        → getD (fillLevels at stride w h (f 0) (f 1) l) (at + 4 * (j * stride) + 4 * i + k) 0 ≡ f k
+    rows-stored : (h i j k : ℕ) → w ≤ level-stride → ((j : ℕ) → j < h → at + 4 * (j * level-stride + w) ≤ length l + 2) → i < w → j < h → k < 2
+        → getD (fillLevels at level-stride w h (f 0) (f 1) l) (at + 4 * (j * level-stride) + 4 * i + k) 0 ≡ f k
     unfolding fillLevels
     rows-stored zero i j k s b p q r = absurd (omega arith)
     rows-stored (suc h) i j k s b p q r =
         by-cases (ℕ-discrete j h)
-        (λ e. rw e (row-stored (at + 4 * (h * stride)) (fillLevels at stride w h (f 0) (f 1) l) w i k (rw (length-rows h) (omega (arith, b h (omega arith)))) p r))
-        (λ g. row-kept (at + 4 * (h * stride)) (fillLevels at stride w h (f 0) (f 1) l) w (at + 4 * (j * stride) + 4 * i + k)
-        (λ m n a c e. omega (arith, row-in j h stride (omega arith)))
+        (λ e. rw e (row-stored (at + 4 * (h * level-stride)) (fillLevels at level-stride w h (f 0) (f 1) l) w i k (rw (length-rows h) (omega (arith, b h (omega arith)))) p r))
+        (λ g. row-kept (at + 4 * (h * level-stride)) (fillLevels at level-stride w h (f 0) (f 1) l) w (at + 4 * (j * level-stride) + 4 * i + k)
+        (λ m n a c e. omega (arith, row-in j h level-stride (omega arith)))
         ∙ rows-stored h i j k s (λ j t. b j (omega arith)) p (omega arith) r)
 
-    rows-kept : (h p : ℕ) → ((i j k : ℕ) → i < w → j < h → k < 2 → ¬ (p ≡ at + 4 * (j * stride) + 4 * i + k))
-        → getD (fillLevels at stride w h (f 0) (f 1) l) p 0 ≡ getD l p 0
+    rows-kept : (h p : ℕ) → ((i j k : ℕ) → i < w → j < h → k < 2 → ¬ (p ≡ at + 4 * (j * level-stride) + 4 * i + k))
+        → getD (fillLevels at level-stride w h (f 0) (f 1) l) p 0 ≡ getD l p 0
     unfolding fillLevels
     rows-kept zero p n = refl
     rows-kept (suc h) p n =
-        row-kept (at + 4 * (h * stride)) (fillLevels at stride w h (f 0) (f 1) l) w p (λ i k q r. n i h k q (omega arith) r)
+        row-kept (at + 4 * (h * level-stride)) (fillLevels at level-stride w h (f 0) (f 1) l) w p (λ i k q r. n i h k q (omega arith) r)
         ∙ rows-kept h p (λ i j k a c. n i j k a (omega arith))
 
 -- ---- an area of units
 
 -- the area of w by h units at (x, y), where it is given: the two kinds of byte from `base` on are f
-record Filled (given : Bool) (stride x y w h base : ℕ) (f : ℕ → ℕ) (before after : List ℕ) : Type 0 where
+record Filled (given : Bool) (level-stride x y w h base : ℕ) (f : ℕ → ℕ) (before after : List ℕ) : Type 0 where
   long : length after ≡ length before
-  stored : given ≡ true → (i j k : ℕ) → i < w → j < h → k < 2 → getD after (levelAt stride (x + i) (y + j) (base + k)) 0 ≡ f k
-  kept : (p : ℕ) → (given ≡ true → (i j k : ℕ) → i < w → j < h → k < 2 → ¬ (p ≡ levelAt stride (x + i) (y + j) (base + k)))
+  stored : given ≡ true → (i j k : ℕ) → i < w → j < h → k < 2 → getD after (levelAt level-stride (x + i) (y + j) (base + k)) 0 ≡ f k
+  kept : (p : ℕ) → (given ≡ true → (i j k : ℕ) → i < w → j < h → k < 2 → ¬ (p ≡ levelAt level-stride (x + i) (y + j) (base + k)))
       → getD after p 0 ≡ getD before p 0
 
-place : (stride x y base i j k : ℕ) → levelAt stride (x + i) (y + j) (base + k) ≡ levelAt stride x y base + 4 * (j * stride) + 4 * i + k
+place : (level-stride x y base i j k : ℕ) → levelAt level-stride (x + i) (y + j) (base + k) ≡ levelAt level-stride x y base + 4 * (j * level-stride) + 4 * i + k
 unfolding levelAt
-place stride x y base i j k = omega (arith, add-mul y j stride)
+place level-stride x y base i j k = omega (arith, add-mul y j level-stride)
 
-module _ (given : Bool) (stride x y w h base : ℕ) (f : ℕ → ℕ) (l : List ℕ) where
+module _ (given : Bool) (level-stride x y w h base : ℕ) (f : ℕ → ℕ) (l : List ℕ) where
   abbrev seen : Bool
   seen = given && (ltb 0 w && ltb 0 h)
 
-  filled : (seen ≡ true → (w ≤ stride) × ((j : ℕ) → j < h → levelAt stride x y base + 4 * (j * stride + w) ≤ length l + 2))
-      → Filled given stride x y w h base f l (cond seen (fillLevels (levelAt stride x y base) stride w h (f 0) (f 1) l) l)
+  filled : (seen ≡ true → (w ≤ level-stride) × ((j : ℕ) → j < h → levelAt level-stride x y base + 4 * (j * level-stride + w) ≤ length l + 2))
+      → Filled given level-stride x y w h base f l (cond seen (fillLevels (levelAt level-stride x y base) level-stride w h (f 0) (f 1) l) l)
   filled b = go seen refl
     where
-      go : (s : Bool) → seen ≡ s → Filled given stride x y w h base f l (cond s (fillLevels (levelAt stride x y base) stride w h (f 0) (f 1) l) l)
+      go : (s : Bool) → seen ≡ s → Filled given level-stride x y w h base f l (cond s (fillLevels (levelAt level-stride x y base) level-stride w h (f 0) (f 1) l) l)
       go true t =
           record {
-            long = length-rows f (levelAt stride x y base) stride w l h;
-            stored = λ g i j k p q r. rw (place stride x y base i j k) (rows-stored f (levelAt stride x y base) stride w l h i j k (b t .0) (b t .1) p q r);
-            kept = λ p n. rows-kept f (levelAt stride x y base) stride w l h p
-                (λ i j k a c r e. n (and-eq-true-iff given (ltb 0 w && ltb 0 h) .0 t .0) i j k a c r (e ∙ sym (place stride x y base i j k)));
+            long = length-rows f (levelAt level-stride x y base) level-stride w l h;
+            stored = λ g i j k p q r. rw (place level-stride x y base i j k) (rows-stored f (levelAt level-stride x y base) level-stride w l h i j k (b t .0) (b t .1) p q r);
+            kept = λ p n. rows-kept f (levelAt level-stride x y base) level-stride w l h p
+                (λ i j k a c r e. n (and-eq-true-iff given (ltb 0 w && ltb 0 h) .0 t .0) i j k a c r (e ∙ sym (place level-stride x y base i j k)));
           }
       go false t =
           record {
@@ -128,48 +128,48 @@ from p = omega arith
 within : {u n w : ℕ} → (u ≤ n) × (n < u + w) → n - u < w
 within p = omega arith
 
-other-kind : (stride x y kind x′ y′ k : ℕ) → kind < 2 → k < 2 → ¬ (levelAt stride x y kind ≡ levelAt stride x′ y′ (2 + k))
+other-area : (level-stride x y area x′ y′ k : ℕ) → area < 2 → k < 2 → ¬ (levelAt level-stride x y area ≡ levelAt level-stride x′ y′ (2 + k))
 unfolding levelAt
-other-kind stride x y kind x′ y′ k p q e = omega arith
+other-area level-stride x y area x′ y′ k p q e = omega arith
 
-module _ (b : Block) (s : Fitting b) (stride : ℕ) (values ls : List ℕ) (wide : w4 b ≤ stride) (long : 4 * stride * h4 b ≤ length ls) where
-  luma-area : Filled true stride (b .x .0) (b .y .0) (bw4 b) (bh4 b) 0 (valueOf b values) ls (lumaLevels b stride values ls)
+module _ (b : Block) (s : Fitting b) (level-stride : ℕ) (values ls : List ℕ) (blockWidth : w4 b ≤ level-stride) (long : 4 * level-stride * h4 b ≤ length ls) where
+  luma-area : Filled true level-stride (b .x .0) (b .y .0) (bw4 b) (bh4 b) 0 (valueOf b values) ls (lumaLevels b level-stride values ls)
   luma-area =
-      filled true stride (b .x .0) (b .y .0) (bw4 b) (bh4 b) 0 (valueOf b values) ls
-      (λ e. (omega (arith, luma-cut b s e .0), luma-lines b s e stride (length ls) wide long))
+      filled true level-stride (b .x .0) (b .y .0) (bw4 b) (bh4 b) 0 (valueOf b values) ls
+      (λ e. (omega (arith, luma-cut b s e .0), luma-lines b s e level-stride (length ls) blockWidth long))
 
   module _ (ms : List ℕ) (same : length ms ≡ length ls) where
-    chroma-area : Filled (b .chroma) stride (chromaUnit (ssx b) (b .x .0)) (chromaUnit (ssy b) (b .y .0)) (cbw4 b) (cbh4 b) 2 (λ k. valueOf b values (2 + k)) ms
-        (chromaLevels b stride values ms)
+    chroma-area : Filled (b .chroma) level-stride (chromaUnit (ss-hor b) (b .x .0)) (chromaUnit (ss-ver b) (b .y .0)) (cbw4 b) (cbh4 b) 2 (λ k. valueOf b values (2 + k)) ms
+        (chromaLevels b level-stride values ms)
     chroma-area =
-        filled (b .chroma) stride (chromaUnit (ssx b) (b .x .0)) (chromaUnit (ssy b) (b .y .0)) (cbw4 b) (cbh4 b) 2 (λ k. valueOf b values (2 + k)) ms
-        (λ e. (chroma-wide e, chroma-lines b s e stride (length ms) wide (omega arith)))
+        filled (b .chroma) level-stride (chromaUnit (ss-hor b) (b .x .0)) (chromaUnit (ss-ver b) (b .y .0)) (cbw4 b) (cbh4 b) 2 (λ k. valueOf b values (2 + k)) ms
+        (λ e. (chroma-wide e, chroma-lines b s e level-stride (length ms) blockWidth (omega arith)))
       where
-        chroma-wide : seesChroma b ≡ true → cbw4 b ≤ stride
-        chroma-wide e = through (chromaUnit (ssx b) (b .x .0)) (chroma-cut b s e .0) (chroma-units-le (w4 b) (ssx b) (ss-hor-le (b .layout))) wide
+        chroma-wide : seesChroma b ≡ true → cbw4 b ≤ level-stride
+        chroma-wide e = through (chromaUnit (ss-hor b) (b .x .0)) (chroma-cut b s e .0) (chroma-units-le (w4 b) (ss-hor b) (ss-hor-le (b .layout))) blockWidth
           where
             through : (u : ℕ) {k m n t : ℕ} → u + k ≤ m → m ≤ n → n ≤ t → k ≤ t
             through u p q r = omega arith
 
   abbrev after : List ℕ
-  after = chromaLevels b stride values (lumaLevels b stride values ls)
+  after = chromaLevels b level-stride values (lumaLevels b level-stride values ls)
 
-  both : Filled (b .chroma) stride (chromaUnit (ssx b) (b .x .0)) (chromaUnit (ssy b) (b .y .0)) (cbw4 b) (cbh4 b) 2 (λ k. valueOf b values (2 + k))
-      (lumaLevels b stride values ls) after
-  both = chroma-area (lumaLevels b stride values ls) (luma-area .long)
+  both : Filled (b .chroma) level-stride (chromaUnit (ss-hor b) (b .x .0)) (chromaUnit (ss-ver b) (b .y .0)) (cbw4 b) (cbh4 b) 2 (λ k. valueOf b values (2 + k))
+      (lumaLevels b level-stride values ls) after
+  both = chroma-area (lumaLevels b level-stride values ls) (luma-area .long)
 
-  units-stored : (x y kind : ℕ) → Seen b x y kind → getD after (levelAt stride x y kind) 0 ≡ valueOf b values kind
-  units-stored x y kind (luma h v) =
-      both .kept (levelAt stride x y kind) (λ g i j k p q r. other-kind stride x y kind _ _ k h r)
-      ∙ rw (from (v .across .0), from (v .down .0), low) at (luma-area .stored refl (x - b .x .0) (y - b .y .0) kind (within (v .across)) (within (v .down)) h)
+  units-stored : (x y area : ℕ) → Seen b x y area → getD after (levelAt level-stride x y area) 0 ≡ valueOf b values area
+  units-stored x y area (luma h v) =
+      both .kept (levelAt level-stride x y area) (λ g i j k p q r. other-area level-stride x y area _ _ k h r)
+      ∙ rw (from (v .across .0), from (v .down .0), low) at (luma-area .stored refl (x - b .x .0) (y - b .y .0) area (within (v .across)) (within (v .down)) h)
     where
-      low : 0 + kind ≡ kind
+      low : 0 + area ≡ area
       low = omega arith
-  units-stored x y kind (chroma h v) =
+  units-stored x y area (chroma h v) =
       rw (from (v .across .0), from (v .down .0), from (h .0)) at
-      (both .stored (v .given) (x - chromaUnit (ssx b) (b .x .0)) (y - chromaUnit (ssy b) (b .y .0)) (kind - 2) (within (v .across)) (within (v .down)) (omega arith))
+      (both .stored (v .given) (x - chromaUnit (ss-hor b) (b .x .0)) (y - chromaUnit (ss-ver b) (b .y .0)) (area - 2) (within (v .across)) (within (v .down)) (omega arith))
 
-  pub block-levels : Levels b stride values ls after
+  pub block-levels : Levels b level-stride values ls after
   block-levels =
       record {
         long = both .long ∙ luma-area .long;

@@ -1,7 +1,7 @@
 pub mod Rooms
 pub mod Stores
-pub mod Nears
-pub mod Sounds
+pub mod NearBlocks
+pub mod SoundBlocks
 pub mod Fills
 pub mod Frames
 pub mod Accepted

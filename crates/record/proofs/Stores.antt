@@ -15,7 +15,7 @@ use Rattle.units.specs.Memory.{levelAt, halfUnits}
 use Rattle.units.specs.Sizes.{lumaClass, chromaClass}
 use Rattle.mask_edges.specs.Folds.{columnsOf, rowsOf, gridMasks, cellMasks, tables}
 use Rattle.block.specs.declared.Block.{Block}
-use Rattle.block.specs.Block.{ssx, ssy, bw4, bh4, cbw4, cbh4, seesLuma, seesChroma}
+use Rattle.block.specs.Block.{ss-hor, ss-ver, bw4, bh4, cbw4, cbh4, seesLuma, seesChroma}
 use Rattle.record.specs.Record.{valueOf, fillRow, fillLevels, recordAt, inRecord, lumaLevels, chromaLevels, intraMasks, interMasks, chromaMasks}
 
 -- ---- levels
@@ -64,22 +64,22 @@ pub row-put : (a e w u v : ℕ) (l ys : List ℕ) → a ≤ e → e ≤ length l
     → putMid a (e - a) l ys ≡ fillRow a w u v l
 row-put a e w u v l ys h g b q = rw q (row-in-part a (e - a) u v l (le-trans h g) w (omega (arith, mid-len a e l g)))
 
-pub levels-none : (at stride w u v : ℕ) (l : List ℕ) → l ≡ fillLevels at stride w 0 u v l
+pub levels-none : (at level-stride w u v : ℕ) (l : List ℕ) → l ≡ fillLevels at level-stride w 0 u v l
 unfolding fillLevels
-levels-none at stride w u v l = refl
+levels-none at level-stride w u v l = refl
 
-pub levels-step : (at stride w u v j : ℕ) (l₀ l l′ : List ℕ) → l ≡ fillLevels at stride w j u v l₀ → l′ ≡ fillRow (at + 4 * (j * stride)) w u v l
-    → l′ ≡ fillLevels at stride w (j + 1) u v l₀
+pub levels-step : (at level-stride w u v j : ℕ) (l₀ l l′ : List ℕ) → l ≡ fillLevels at level-stride w j u v l₀ → l′ ≡ fillRow (at + 4 * (j * level-stride)) w u v l
+    → l′ ≡ fillLevels at level-stride w (j + 1) u v l₀
 unfolding fillLevels
-levels-step at stride w u v j l₀ l l′ = upTo-again (λ j. fillRow (at + 4 * (j * stride)) w u v) j l₀
+levels-step at level-stride w u v j l₀ l l′ = upTo-again (λ j. fillRow (at + 4 * (j * level-stride)) w u v) j l₀
 
-module _ (b : Block) (stride : ℕ) (values ls ls′ : List ℕ) (at w h u v : ℕ) (g : ls′ ≡ fillLevels at stride w h u v ls) where
-  pub luma-filled : seesLuma b ≡ true → at ≡ levelAt stride (b .x .0) (b .y .0) 0 → w ≡ bw4 b → h ≡ bh4 b → u ≡ valueOf b values 0 → v ≡ valueOf b values 1
-      → ls′ ≡ lumaLevels b stride values ls
+module _ (b : Block) (level-stride : ℕ) (values ls ls′ : List ℕ) (at w h u v : ℕ) (g : ls′ ≡ fillLevels at level-stride w h u v ls) where
+  pub luma-filled : seesLuma b ≡ true → at ≡ levelAt level-stride (b .x .0) (b .y .0) 0 → w ≡ bw4 b → h ≡ bh4 b → u ≡ valueOf b values 0 → v ≡ valueOf b values 1
+      → ls′ ≡ lumaLevels b level-stride values ls
   luma-filled e ea ew eh eu ev = rw e (g ∙ rw (ea, ew, eh, eu, ev) refl)
 
-  pub chroma-filled : seesChroma b ≡ true → at ≡ levelAt stride (chromaUnit (ssx b) (b .x .0)) (chromaUnit (ssy b) (b .y .0)) 2 → w ≡ cbw4 b → h ≡ cbh4 b
-      → u ≡ valueOf b values 2 → v ≡ valueOf b values 3 → ls′ ≡ chromaLevels b stride values ls
+  pub chroma-filled : seesChroma b ≡ true → at ≡ levelAt level-stride (chromaUnit (ss-hor b) (b .x .0)) (chromaUnit (ss-ver b) (b .y .0)) 2 → w ≡ cbw4 b → h ≡ cbh4 b
+      → u ≡ valueOf b values 2 → v ≡ valueOf b values 3 → ls′ ≡ chromaLevels b level-stride values ls
   chroma-filled e ea ew eh eu ev = rw e (g ∙ rw (ea, ew, eh, eu, ev) refl)
 
 -- ---- masks
@@ -97,13 +97,14 @@ module _ (b : Block) (at w h : ℕ) (a l xs ys : List ℕ) (ea : at ≡ recordAt
       ∙ rw (ea, ew, eh) refl)
 
   pub inter-put : (tm : List ℕ) → seesLuma b ≡ true → w ≡ bw4 b → h ≡ bh4 b
-      → ys ≡ cellMasks (columnsOf false 16 (b .y .0 % 32) (b .x .0 % 32) w h) (rowsOf false 16 (b .y .0 % 32) (b .x .0 % 32) w h) (tables tm (b .tx) w h) (b .skip) a l (take (at + 640 - at) (drop at xs))
+      → ys ≡ cellMasks (columnsOf false 16 (b .y .0 % 32) (b .x .0 % 32) w h) (rowsOf false 16 (b .y .0 % 32) (b .x .0 % 32) w h) (tables tm (b .tx) w h) (b .skip) a l
+      (take (at + 640 - at) (drop at xs))
       → putMid at (at + 640 - at) xs ys ≡ interMasks b tm a l xs
   inter-put tm e ew eh g =
       rw e (in-record at xs ys (cellMasks (columnsOf false 16 (b .y .0 % 32) (b .x .0 % 32) w h) (rowsOf false 16 (b .y .0 % 32) (b .x .0 % 32) w h) (tables tm (b .tx) w h) (b .skip) a l) g
       ∙ rw (ea, ew, eh) refl)
 
-  pub chroma-put : (hor ver cx cy : ℕ) → seesChroma b ≡ true → w ≡ cbw4 b → h ≡ cbh4 b → hor ≡ ssx b → ver ≡ ssy b → cx ≡ chromaUnit hor (b .x .0 % 32)
+  pub chroma-put : (hor ver cx cy : ℕ) → seesChroma b ≡ true → w ≡ cbw4 b → h ≡ cbh4 b → hor ≡ ss-hor b → ver ≡ ss-ver b → cx ≡ chromaUnit hor (b .x .0 % 32)
       → cy ≡ chromaUnit ver (b .y .0 % 32)
       → ys ≡ gridMasks (columnsOf true (halfUnits ver) cy cx w h) (rowsOf true (halfUnits hor) cy cx w h) chromaClass (b .uvtx) (b .skip) a l (take (at + 640 - at) (drop at xs))
       → putMid at (at + 640 - at) xs ys ≡ chromaMasks b a l xs

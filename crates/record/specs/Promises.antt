@@ -11,21 +11,21 @@ use Rattle.block.specs.Faults.{ShapeFault, BlockFault, ContextsFault, LengthFau
 use Rattle.record.specs.Record.{RecordAnswer}
 use Rattle.record.specs.Recorded.{Stored}
 
-pub record Promised (b : Block) (stride : ℕ) (values tm : List ℕ) (r : ℕ) (before after : Lent) : Type 0 where
+pub record Promised (b : Block) (level-stride : ℕ) (values tm : List ℕ) (r : ℕ) (before after : Lent) : Type 0 where
   -- the numbers, exactly when; of several the lowest
   pub four : Exactly (r ≡ 4) (ShapeFault b)
   pub five : Exactly (r ≡ 5) (BlockFault b × (¬ ShapeFault b))
   pub six : Exactly (r ≡ 6) (ContextsFault b before × (¬ BlockFault b) × (¬ ShapeFault b))
-  pub seven : Exactly (r ≡ 7) (LengthFault b stride before × (¬ ContextsFault b before) × (¬ BlockFault b) × (¬ ShapeFault b))
-  pub zero : Exactly (r ≡ 0) ((¬ LengthFault b stride before) × (¬ ContextsFault b before) × (¬ BlockFault b) × (¬ ShapeFault b))
+  pub seven : Exactly (r ≡ 7) (LengthFault b level-stride before × (¬ ContextsFault b before) × (¬ BlockFault b) × (¬ ShapeFault b))
+  pub zero : Exactly (r ≡ 0) ((¬ LengthFault b level-stride before) × (¬ ContextsFault b before) × (¬ BlockFault b) × (¬ ShapeFault b))
   -- a refusal stores nothing
   pub refused : ¬ (r ≡ 0) → after ≡ before
   -- an accepted block is recorded
-  pub accepted : r ≡ 0 → Stored b stride values tm before after
+  pub accepted : r ≡ 0 → Stored b level-stride values tm before after
 
 pub record Promises : Type 0 where
   -- two answers that the contract admits coincide
-  pub unique : (b : Block) (stride : ℕ) (values tm : List ℕ) (r q : ℕ) (before m n : Lent)
-      → RecordAnswer b stride values tm r before m → RecordAnswer b stride values tm q before n → (r ≡ q) × (m ≡ n)
-  pub each : (b : Block) (stride : ℕ) (values tm : List ℕ) (r : ℕ) (before after : Lent)
-      → RecordAnswer b stride values tm r before after → Promised b stride values tm r before after
+  pub unique : (b : Block) (level-stride : ℕ) (values tm : List ℕ) (r q : ℕ) (before m n : Lent)
+      → RecordAnswer b level-stride values tm r before m → RecordAnswer b level-stride values tm q before n → (r ≡ q) × (m ≡ n)
+  pub each : (b : Block) (level-stride : ℕ) (values tm : List ℕ) (r : ℕ) (before after : Lent)
+      → RecordAnswer b level-stride values tm r before after → Promised b level-stride values tm r before after

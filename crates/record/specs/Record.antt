@@ -1,6 +1,6 @@
 -- What recording a block stores, in the order of the code, and the contract of `record_intra` and `record_inter`.
 --   intraOf, interOf               the block of a call's arguments
---   valueOf b values kind          the level value of the block's kind: 0 luma columns, 1 luma rows, 2 U, 3 V
+--   valueOf b values area          the level value of the block's area: 0 luma columns, 1 luma rows, 2 U, 3 V
 --   fillRow, fillLevels            two bytes of each of w units, h times: u, and v after it
 --   recordAt b, inRecord a g       where the block's record of masks stands; the masks with g made of the 640 words at a
 --   cbx4, cby4                     the chroma place of the block in its record
@@ -24,10 +24,10 @@ use Rattle.units.specs.Units.{chromaUnit}
 use Rattle.units.specs.Frame.{recordOf}
 use Rattle.units.specs.Memory.{levelAt, halfUnits}
 use Rattle.units.specs.Sizes.{lumaClass, chromaClass}
-use Rattle.mask_edges.specs.declared.edge.Pass.{Pass}
+use Rattle.mask_edges.specs.declared.edge.BlockPass.{BlockPass}
 use Rattle.mask_edges.specs.Folds.{columnsOf, rowsOf, gridMasks, cellMasks, stores, classIn, tables}
 use Rattle.block.specs.declared.Block.{Block}
-use Rattle.block.specs.Block.{w4, h4, wide, high, ssx, ssy, bw4, bh4, cbw4, cbh4, seesLuma, seesChroma, Lent, Sides}
+use Rattle.block.specs.Block.{w4, h4, blockWidth, blockHeight, ss-hor, ss-ver, bw4, bh4, cbw4, cbh4, seesLuma, seesChroma, Lent, Sides}
 use Rattle.block.specs.Tests.{number}
 
 -- a flag of a call
@@ -71,13 +71,13 @@ interOf width height layout x y size tx chroma uvtx skip reference mode =
     }
 
 abbrev pub valueOf : Block → List ℕ → ℕ → ℕ
-valueOf b values kind = getD values ((kind * 8 + b .reference) * 2 + b .mode) 0
+valueOf b values area = getD values ((area * 8 + b .reference) * 2 + b .mode) 0
 
 unfoldable pub fillRow : ℕ → ℕ → ℕ → ℕ → List ℕ → List ℕ
 fillRow at w u v = upTo (λ i l. set (set l (at + 4 * i) u) (at + 4 * i + 1) v) w
 
 unfoldable pub fillLevels : ℕ → ℕ → ℕ → ℕ → ℕ → ℕ → List ℕ → List ℕ
-fillLevels at stride w h u v = upTo (λ j. fillRow (at + 4 * (j * stride)) w u v) h
+fillLevels at level-stride w h u v = upTo (λ j. fillRow (at + 4 * (j * level-stride)) w u v) h
 
 abbrev pub recordAt : Block → ℕ
 recordAt b = 640 * recordOf (w4 b) (b .x .0) (b .y .0)
@@ -86,33 +86,33 @@ unfoldable pub inRecord : ℕ → (List ℕ → List ℕ) → List ℕ → List 
 inRecord a g ms = take a ms ++ (g (take 640 (drop a ms)) ++ drop (a + 640) ms)
 
 abbrev pub cbx4 : Block → ℕ
-cbx4 b = chromaUnit (ssx b) (b .x .0 % 32)
+cbx4 b = chromaUnit (ss-hor b) (b .x .0 % 32)
 
 abbrev pub cby4 : Block → ℕ
-cby4 b = chromaUnit (ssy b) (b .y .0 % 32)
+cby4 b = chromaUnit (ss-ver b) (b .y .0 % 32)
 
-abbrev pub lumaColumns : Block → Pass
+abbrev pub lumaColumns : Block → BlockPass
 lumaColumns b = columnsOf false 16 (b .y .0 % 32) (b .x .0 % 32) (bw4 b) (bh4 b)
 
-abbrev pub lumaRows : Block → Pass
+abbrev pub lumaRows : Block → BlockPass
 lumaRows b = rowsOf false 16 (b .y .0 % 32) (b .x .0 % 32) (bw4 b) (bh4 b)
 
-abbrev pub chromaColumns : Block → Pass
-chromaColumns b = columnsOf true (halfUnits (ssy b)) (cby4 b) (cbx4 b) (cbw4 b) (cbh4 b)
+abbrev pub chromaColumns : Block → BlockPass
+chromaColumns b = columnsOf true (halfUnits (ss-ver b)) (cby4 b) (cbx4 b) (cbw4 b) (cbh4 b)
 
-abbrev pub chromaRows : Block → Pass
-chromaRows b = rowsOf true (halfUnits (ssx b)) (cby4 b) (cbx4 b) (cbw4 b) (cbh4 b)
+abbrev pub chromaRows : Block → BlockPass
+chromaRows b = rowsOf true (halfUnits (ss-hor b)) (cby4 b) (cbx4 b) (cbw4 b) (cbh4 b)
 
 -- ---- levels
 
 abbrev pub lumaLevels : Block → ℕ → List ℕ → List ℕ → List ℕ
-lumaLevels b stride values ls =
-    cond (seesLuma b) (fillLevels (levelAt stride (b .x .0) (b .y .0) 0) stride (bw4 b) (bh4 b) (valueOf b values 0) (valueOf b values 1) ls) ls
+lumaLevels b level-stride values ls =
+    cond (seesLuma b) (fillLevels (levelAt level-stride (b .x .0) (b .y .0) 0) level-stride (bw4 b) (bh4 b) (valueOf b values 0) (valueOf b values 1) ls) ls
 
 abbrev pub chromaLevels : Block → ℕ → List ℕ → List ℕ → List ℕ
-chromaLevels b stride values ls =
+chromaLevels b level-stride values ls =
     cond (seesChroma b)
-    (fillLevels (levelAt stride (chromaUnit (ssx b) (b .x .0)) (chromaUnit (ssy b) (b .y .0)) 2) stride (cbw4 b) (cbh4 b) (valueOf b values 2) (valueOf b values 3) ls)
+    (fillLevels (levelAt level-stride (chromaUnit (ss-hor b) (b .x .0)) (chromaUnit (ss-ver b) (b .y .0)) 2) level-stride (cbw4 b) (cbh4 b) (valueOf b values 2) (valueOf b values 3) ls)
     ls
 
 -- ---- masks
@@ -163,9 +163,9 @@ chromaLeft b l = cond (seesChroma b) (stores (cbh4 b) (λ _. chromaClass (Tx_Wid
 
 -- ---- the contract
 
-pub record RecordAnswer (b : Block) (stride : ℕ) (values tm : List ℕ) (r : ℕ) (before after : Lent) : Type 0 where
-  pub code : r ≡ number b stride before
-  pub levels : after .levels ≡ cond (eqb r 0) (chromaLevels b stride values (lumaLevels b stride values (before .levels))) (before .levels)
+pub record RecordAnswer (b : Block) (level-stride : ℕ) (values tm : List ℕ) (r : ℕ) (before after : Lent) : Type 0 where
+  pub code : r ≡ number b level-stride before
+  pub levels : after .levels ≡ cond (eqb r 0) (chromaLevels b level-stride values (lumaLevels b level-stride values (before .levels))) (before .levels)
   pub masks : after .masks
       ≡ cond (eqb r 0) (chromaMasks b (before .above-uv) (before .left-uv) (lumaMasks b tm (before .above) (before .left) (before .masks))) (before .masks)
   pub above : after .above ≡ cond (eqb r 0) (lumaAbove b tm (before .above)) (before .above)
@@ -177,8 +177,8 @@ pub record Fitting (b : Block) : Type 0 where
   pub sides : Sides b
   pub tx : b .tx < 19
   pub uvtx : b .chroma ≡ true → b .uvtx < 19
-  pub x-on : b .x .0 % wide b ≡ 0
-  pub y-on : b .y .0 % high b ≡ 0
+  pub x-on : b .x .0 % blockWidth b ≡ 0
+  pub y-on : b .y .0 % blockHeight b ≡ 0
   pub x-in : b .x .0 ≤ w4 b
   pub y-in : b .y .0 ≤ h4 b
   pub largest : b .inter ≡ true → (b .tx ≡ Max_Tx_Size_Rect (b .size)) ⊎ (b .tx ≡ 0)

@@ -1,7 +1,7 @@
 -- What an accepted block leaves in the frame's buffers, document 01, "Units and lent memory" and "Recording", in whatever order it is done.
 --   LumaSeen, ChromaSeen     (x, y) is a unit of the visible block in its plane; of chroma only where the pair is given
---   Seen                     in the plane of the level byte `kind`
---   Levels                   the value of each kind at each visible unit, and every other byte as before
+--   Seen                     in the plane of the level byte `area`
+--   Levels                   the value of each area at each visible unit, and every other byte as before
 --   lumaBlock, chromaBlock   the block in its record of masks
 --   inFrame                  the bit of an edge in the frame's masks, records being of 640 words of 16 bits
 --   edgeOf                   e is the bit of an edge of a block, in either pass
@@ -20,7 +20,7 @@ use Rattle.units.specs.Memory.{levelAt, lumaBit}
 use Rattle.mask_edges.specs.Recording.{columns, rows, edges, Contexts, chromaBits, intraBlock, interBlock}
 use Rattle.mask_edges.specs.Recording as recording
 use Rattle.block.specs.declared.Block.{Block}
-use Rattle.block.specs.Block.{w4, ssx, ssy, bw4, bh4, cbw4, cbh4, seesLuma, seesChroma, Lent}
+use Rattle.block.specs.Block.{w4, ss-hor, ss-ver, bw4, bh4, cbw4, cbh4, seesLuma, seesChroma, Lent}
 use Rattle.record.specs.Record.{valueOf, cbx4, cby4}
 
 -- ---- levels
@@ -31,17 +31,17 @@ pub record LumaSeen (b : Block) (x y : ℕ) : Type 0 where
 
 pub record ChromaSeen (b : Block) (x y : ℕ) : Type 0 where
   pub given : b .chroma ≡ true
-  pub across : (chromaUnit (ssx b) (b .x .0) ≤ x) × (x < chromaUnit (ssx b) (b .x .0) + cbw4 b)
-  pub down : (chromaUnit (ssy b) (b .y .0) ≤ y) × (y < chromaUnit (ssy b) (b .y .0) + cbh4 b)
+  pub across : (chromaUnit (ss-hor b) (b .x .0) ≤ x) × (x < chromaUnit (ss-hor b) (b .x .0) + cbw4 b)
+  pub down : (chromaUnit (ss-ver b) (b .y .0) ≤ y) × (y < chromaUnit (ss-ver b) (b .y .0) + cbh4 b)
 
-pub data Seen (b : Block) (x y kind : ℕ) : Type 0 where
-  luma : kind < 2 → LumaSeen b x y → Seen b x y kind
-  chroma : (2 ≤ kind) × (kind < 4) → ChromaSeen b x y → Seen b x y kind
+pub data Seen (b : Block) (x y area : ℕ) : Type 0 where
+  luma : area < 2 → LumaSeen b x y → Seen b x y area
+  chroma : (2 ≤ area) × (area < 4) → ChromaSeen b x y → Seen b x y area
 
-pub record Levels (b : Block) (stride : ℕ) (values before after : List ℕ) : Type 0 where
+pub record Levels (b : Block) (level-stride : ℕ) (values before after : List ℕ) : Type 0 where
   pub long : length after ≡ length before
-  pub stored : (x y kind : ℕ) → Seen b x y kind → getD after (levelAt stride x y kind) 0 ≡ valueOf b values kind
-  pub kept : (j : ℕ) → ((x y kind : ℕ) → Seen b x y kind → ¬ (j ≡ levelAt stride x y kind)) → getD after j 0 ≡ getD before j 0
+  pub stored : (x y area : ℕ) → Seen b x y area → getD after (levelAt level-stride x y area) 0 ≡ valueOf b values area
+  pub kept : (j : ℕ) → ((x y area : ℕ) → Seen b x y area → ¬ (j ≡ levelAt level-stride x y area)) → getD after j 0 ≡ getD before j 0
 
 -- ---- masks
 
@@ -64,7 +64,7 @@ abbrev pub lumaEdge : Block → List ℕ → Lent → ℕ → Bool
 lumaEdge b tm m = edgeOf (lumaBlock b tm m) (inFrame b lumaBit)
 
 abbrev pub chromaEdge : Block → Lent → ℕ → Bool
-chromaEdge b m e = b .chroma && edgeOf (chromaBlock b m) (inFrame b (chromaBits (ssx b) (ssy b))) e
+chromaEdge b m e = b .chroma && edgeOf (chromaBlock b m) (inFrame b (chromaBits (ss-hor b) (ss-ver b))) e
 
 pub record Masks (b : Block) (tm : List ℕ) (before : Lent) (after : List ℕ) : Type 0 where
   pub long : length after ≡ length (before .masks)
@@ -72,8 +72,8 @@ pub record Masks (b : Block) (tm : List ℕ) (before : Lent) (after : List ℕ) 
 
 -- ---- all
 
-pub record Stored (b : Block) (stride : ℕ) (values tm : List ℕ) (before after : Lent) : Type 0 where
-  pub levels : Levels b stride values (before .levels) (after .levels)
+pub record Stored (b : Block) (level-stride : ℕ) (values tm : List ℕ) (before after : Lent) : Type 0 where
+  pub levels : Levels b level-stride values (before .levels) (after .levels)
   pub masks : Masks b tm before (after .masks)
   -- the contexts of a plane in which units are recorded; else they stay
   pub luma : seesLuma b ≡ true → Contexts (lumaBlock b tm before) (after .above) (after .left)

@@ -1,5 +1,5 @@
 // Recording of intra and inter blocks: level bytes, masks and contexts.
-mod levels;
+mod level_bytes;
 mod masks;
 
 use block::Block;
@@ -9,8 +9,8 @@ use block::luma_high;
 use block::luma_wide;
 use block::number::number;
 use block::seen;
-use levels::chroma_levels;
-use levels::luma_levels;
+use level_bytes::chroma_levels;
+use level_bytes::luma_levels;
 use masks::chroma_masks;
 use masks::inter_masks;
 use masks::intra_masks;
@@ -23,20 +23,22 @@ ghost use Prim.Native.Nat.{_*_, _<_, _≤_};
 ghost use lib.ListN.{length};
 ghost use Rattle.units.specs.Frame.{frameRecords};
 ghost use Rattle.block.specs.Block.{w4, h4, bw4, bh4, cbw4, cbh4, seesLuma, seesChroma, lent};
-ghost use Rattle.record.specs.Record.{intraOf, interOf, lumaLevels, chromaLevels, intraMasks, interMasks, chromaMasks, intraAbove, intraLeft, interAbove, interLeft, chromaAbove, chromaLeft, RecordAnswer, Sound};
+ghost use Rattle.record.specs.Record.{intraOf, interOf, lumaLevels, chromaLevels, intraMasks, interMasks, chromaMasks, intraAbove, intraLeft, interAbove};
+ghost use Rattle.record.specs.Record.{interLeft, chromaAbove, chromaLeft, RecordAnswer, Sound};
 ghost use Rattle.record.specs.Promises.{Promises};
 
 fn intra_luma(
     levels: &mut [u8],
-    stride: usize,
+    level_stride: usize,
     masks: &mut [u16],
     values: &[u8; 64],
     b: Block,
     above: &mut [u8],
     left: &mut [u8],
 )
-    requires { ⌜ Sound b × (w4 b ≤ stride) × (4 * stride * h4 b ≤ length (now levels)) × (640 * frameRecords (w4 b) (h4 b) ≤ length (now masks)) × (seesLuma b ≡ true → (bw4 b ≤ length (now above)) × (bh4 b ≤ length (now left))) ⌝ }
-    ensures levels { λ _. ⌜ now (levels .exit) ≡ lumaLevels b stride (now (values .entry)) (now (levels .entry)) ⌝ }
+    requires { ⌜ Sound b × (w4 b ≤ «level_stride») × (4 * «level_stride» * h4 b ≤ length (now levels)) × (640 * frameRecords (w4 b) (h4 b) ≤ length (now masks))
+        × (seesLuma b ≡ true → (bw4 b ≤ length (now above)) × (bh4 b ≤ length (now left))) ⌝ }
+    ensures levels { λ _. ⌜ now (levels .exit) ≡ lumaLevels b «level_stride» (now (values .entry)) (now (levels .entry)) ⌝ }
     ensures masks { λ _. ⌜ now (masks .exit) ≡ intraMasks b (now (above .entry)) (now (left .entry)) (now (masks .entry)) ⌝ }
     ensures above { λ _. ⌜ now (above .exit) ≡ intraAbove b (now (above .entry)) ⌝ }
     ensures left { λ _. ⌜ now (left .exit) ≡ intraLeft b (now (left .entry)) ⌝ }
@@ -46,15 +48,15 @@ fn intra_luma(
     if !seen(w.0, h.0) {
         return;
     }
-    luma_levels(levels, stride, values, b, w, h);
-    let wide = w.0;
-    let high = h.0;
-    intra_masks(masks, b, w, h, &mut above[..wide], &mut left[..high]);
+    luma_levels(levels, level_stride, values, b, w, h);
+    let width = w.0;
+    let height = h.0;
+    intra_masks(masks, b, w, h, &mut above[..width], &mut left[..height]);
 }
 
 fn inter_luma(
     levels: &mut [u8],
-    stride: usize,
+    level_stride: usize,
     masks: &mut [u16],
     values: &[u8; 64],
     b: Block,
@@ -62,8 +64,9 @@ fn inter_luma(
     above: &mut [u8],
     left: &mut [u8],
 )
-    requires { ⌜ Sound b × (w4 b ≤ stride) × (4 * stride * h4 b ≤ length (now levels)) × (640 * frameRecords (w4 b) (h4 b) ≤ length (now masks)) × (seesLuma b ≡ true → (bw4 b ≤ length (now above)) × (bh4 b ≤ length (now left))) × (b .inter ≡ true) ⌝ }
-    ensures levels { λ _. ⌜ now (levels .exit) ≡ lumaLevels b stride (now (values .entry)) (now (levels .entry)) ⌝ }
+    requires { ⌜ Sound b × (w4 b ≤ «level_stride») × (4 * «level_stride» * h4 b ≤ length (now levels)) × (640 * frameRecords (w4 b) (h4 b) ≤ length (now masks))
+        × (seesLuma b ≡ true → (bw4 b ≤ length (now above)) × (bh4 b ≤ length (now left))) × (b .inter ≡ true) ⌝ }
+    ensures levels { λ _. ⌜ now (levels .exit) ≡ lumaLevels b «level_stride» (now (values .entry)) (now (levels .entry)) ⌝ }
     ensures masks { λ _. ⌜ now (masks .exit) ≡ interMasks b (now («tx_masks» .entry)) (now (above .entry)) (now (left .entry)) (now (masks .entry)) ⌝ }
     ensures above { λ _. ⌜ now (above .exit) ≡ interAbove b (now («tx_masks» .entry)) (now (above .entry)) ⌝ }
     ensures left { λ _. ⌜ now (left .exit) ≡ interLeft b (now («tx_masks» .entry)) (now (left .entry)) ⌝ }
@@ -73,31 +76,32 @@ fn inter_luma(
     if !seen(w.0, h.0) {
         return;
     }
-    luma_levels(levels, stride, values, b, w, h);
-    let wide = w.0;
-    let high = h.0;
+    luma_levels(levels, level_stride, values, b, w, h);
+    let width = w.0;
+    let height = h.0;
     inter_masks(
         masks,
         b,
         w,
         h,
         tx_masks,
-        &mut above[..wide],
-        &mut left[..high],
+        &mut above[..width],
+        &mut left[..height],
     );
 }
 
 fn chroma_pair(
     levels: &mut [u8],
-    stride: usize,
+    level_stride: usize,
     masks: &mut [u16],
     values: &[u8; 64],
     b: Block,
     above: &mut [u8],
     left: &mut [u8],
 )
-    requires { ⌜ Sound b × (w4 b ≤ stride) × (4 * stride * h4 b ≤ length (now levels)) × (640 * frameRecords (w4 b) (h4 b) ≤ length (now masks)) × (seesChroma b ≡ true → (cbw4 b ≤ length (now above)) × (cbh4 b ≤ length (now left))) ⌝ }
-    ensures levels { λ _. ⌜ now (levels .exit) ≡ chromaLevels b stride (now (values .entry)) (now (levels .entry)) ⌝ }
+    requires { ⌜ Sound b × (w4 b ≤ «level_stride») × (4 * «level_stride» * h4 b ≤ length (now levels)) × (640 * frameRecords (w4 b) (h4 b) ≤ length (now masks))
+        × (seesChroma b ≡ true → (cbw4 b ≤ length (now above)) × (cbh4 b ≤ length (now left))) ⌝ }
+    ensures levels { λ _. ⌜ now (levels .exit) ≡ chromaLevels b «level_stride» (now (values .entry)) (now (levels .entry)) ⌝ }
     ensures masks { λ _. ⌜ now (masks .exit) ≡ chromaMasks b (now (above .entry)) (now (left .entry)) (now (masks .entry)) ⌝ }
     ensures above { λ _. ⌜ now (above .exit) ≡ chromaAbove b (now (above .entry)) ⌝ }
     ensures left { λ _. ⌜ now (left .exit) ≡ chromaLeft b (now (left .entry)) ⌝ }
@@ -110,15 +114,15 @@ fn chroma_pair(
     if !seen(w.0, h.0) {
         return;
     }
-    chroma_levels(levels, stride, values, b, w, h);
-    let wide = w.0;
-    let high = h.0;
-    chroma_masks(masks, b, w, h, &mut above[..wide], &mut left[..high]);
+    chroma_levels(levels, level_stride, values, b, w, h);
+    let width = w.0;
+    let height = h.0;
+    chroma_masks(masks, b, w, h, &mut above[..width], &mut left[..height]);
 }
 
 pub fn record_intra(
     levels: &mut [u8],
-    stride: usize,
+    level_stride: usize,
     masks: &mut [u16],
     values: &[u8; 64],
     width: u32,
@@ -135,7 +139,7 @@ pub fn record_intra(
     above_uv: &mut [u8],
     left_uv: &mut [u8],
 ) -> u32
-    ensures { λ r. ⌜ RecordAnswer (intraOf width height layout x y size tx chroma uvtx) stride (now (values .entry)) [] r
+    ensures { λ r. ⌜ RecordAnswer (intraOf width height layout x y size tx chroma uvtx) «level_stride» (now (values .entry)) [] r
         (lent (now (levels .entry)) (now (masks .entry)) (now (above .entry)) (now (left .entry)) (now («above_uv» .entry)) (now («left_uv» .entry)))
         (lent (now (levels .exit)) (now (masks .exit)) (now (above .exit)) (now (left .exit)) (now («above_uv» .exit)) (now («left_uv» .exit))) ⌝ }
 {
@@ -154,18 +158,27 @@ pub fn record_intra(
         reference: 0,
         mode: 0,
     };
-    let n = number(b, stride, levels, masks, above, left, above_uv, left_uv);
+    let n = number(
+        b,
+        level_stride,
+        levels,
+        masks,
+        above,
+        left,
+        above_uv,
+        left_uv,
+    );
     if n != 0 {
         return n;
     }
-    intra_luma(levels, stride, masks, values, b, above, left);
-    chroma_pair(levels, stride, masks, values, b, above_uv, left_uv);
+    intra_luma(levels, level_stride, masks, values, b, above, left);
+    chroma_pair(levels, level_stride, masks, values, b, above_uv, left_uv);
     0
 }
 
 pub fn record_inter(
     levels: &mut [u8],
-    stride: usize,
+    level_stride: usize,
     masks: &mut [u16],
     values: &[u8; 64],
     width: u32,
@@ -186,7 +199,7 @@ pub fn record_inter(
     above_uv: &mut [u8],
     left_uv: &mut [u8],
 ) -> u32
-    ensures { λ r. ⌜ RecordAnswer (interOf width height layout x y size tx chroma uvtx skip reference mode) stride (now (values .entry)) (now («tx_masks» .entry)) r
+    ensures { λ r. ⌜ RecordAnswer (interOf width height layout x y size tx chroma uvtx skip reference mode) «level_stride» (now (values .entry)) (now («tx_masks» .entry)) r
         (lent (now (levels .entry)) (now (masks .entry)) (now (above .entry)) (now (left .entry)) (now («above_uv» .entry)) (now («left_uv» .entry)))
         (lent (now (levels .exit)) (now (masks .exit)) (now (above .exit)) (now (left .exit)) (now («above_uv» .exit)) (now («left_uv» .exit))) ⌝ }
 {
@@ -205,12 +218,30 @@ pub fn record_inter(
         reference: reference as usize,
         mode: (mode != 0) as usize,
     };
-    let n = number(b, stride, levels, masks, above, left, above_uv, left_uv);
+    let n = number(
+        b,
+        level_stride,
+        levels,
+        masks,
+        above,
+        left,
+        above_uv,
+        left_uv,
+    );
     if n != 0 {
         return n;
     }
-    inter_luma(levels, stride, masks, values, b, tx_masks, above, left);
-    chroma_pair(levels, stride, masks, values, b, above_uv, left_uv);
+    inter_luma(
+        levels,
+        level_stride,
+        masks,
+        values,
+        b,
+        tx_masks,
+        above,
+        left,
+    );
+    chroma_pair(levels, level_stride, masks, values, b, above_uv, left_uv);
     0
 }
 

@@ -34,7 +34,8 @@ pub fn intra_masks(
     above: &mut [u8],
     left: &mut [u8],
 )
-    requires { ⌜ Fitting b × (seesLuma b ≡ true) × (640 * frameRecords (w4 b) (h4 b) ≤ length (now masks)) × (bw4 b ≤ length (now above)) × (bh4 b ≤ length (now left)) × (w .0 ≡ bw4 b) × (h .0 ≡ bh4 b) ⌝ }
+    requires { ⌜ Fitting b × (seesLuma b ≡ true) × (640 * frameRecords (w4 b) (h4 b) ≤ length (now masks)) × (bw4 b ≤ length (now above)) × (bh4 b ≤ length (now left))
+        × (w .0 ≡ bw4 b) × (h .0 ≡ bh4 b) ⌝ }
     ensures masks { λ _. ⌜ now (masks .exit) ≡ intraMasks b (now (above .entry)) (now (left .entry)) (now (masks .entry)) ⌝ }
     ensures above { λ _. ⌜ now (above .exit) ≡ intraAbove b (now (above .entry)) ⌝ }
     ensures left { λ _. ⌜ now (left .exit) ≡ intraLeft b (now (left .entry)) ⌝ }
@@ -55,7 +56,8 @@ pub fn inter_masks(
     above: &mut [u8],
     left: &mut [u8],
 )
-    requires { ⌜ Fitting b × (b .inter ≡ true) × (seesLuma b ≡ true) × (640 * frameRecords (w4 b) (h4 b) ≤ length (now masks)) × (bw4 b ≤ length (now above)) × (bh4 b ≤ length (now left)) × (w .0 ≡ bw4 b) × (h .0 ≡ bh4 b) ⌝ }
+    requires { ⌜ Fitting b × (b .inter ≡ true) × (seesLuma b ≡ true) × (640 * frameRecords (w4 b) (h4 b) ≤ length (now masks)) × (bw4 b ≤ length (now above))
+        × (bh4 b ≤ length (now left)) × (w .0 ≡ bw4 b) × (h .0 ≡ bh4 b) ⌝ }
     ensures masks { λ _. ⌜ now (masks .exit) ≡ interMasks b (now («tx_masks» .entry)) (now (above .entry)) (now (left .entry)) (now (masks .entry)) ⌝ }
     ensures above { λ _. ⌜ now (above .exit) ≡ interAbove b (now («tx_masks» .entry)) (now (above .entry)) ⌝ }
     ensures left { λ _. ⌜ now (left .exit) ≡ interLeft b (now («tx_masks» .entry)) (now (left .entry)) ⌝ }
@@ -86,7 +88,8 @@ pub fn chroma_masks(
     above: &mut [u8],
     left: &mut [u8],
 )
-    requires { ⌜ Fitting b × (seesChroma b ≡ true) × (640 * frameRecords (w4 b) (h4 b) ≤ length (now masks)) × (cbw4 b ≤ length (now above)) × (cbh4 b ≤ length (now left)) × (w .0 ≡ cbw4 b) × (h .0 ≡ cbh4 b) ⌝ }
+    requires { ⌜ Fitting b × (seesChroma b ≡ true) × (640 * frameRecords (w4 b) (h4 b) ≤ length (now masks)) × (cbw4 b ≤ length (now above))
+        × (cbh4 b ≤ length (now left)) × (w .0 ≡ cbw4 b) × (h .0 ≡ cbh4 b) ⌝ }
     ensures masks { λ _. ⌜ now (masks .exit) ≡ chromaMasks b (now (above .entry)) (now (left .entry)) (now (masks .entry)) ⌝ }
     ensures above { λ _. ⌜ now (above .exit) ≡ chromaAbove b (now (above .entry)) ⌝ }
     ensures left { λ _. ⌜ now (left .exit) ≡ chromaLeft b (now (left .entry)) ⌝ }

@@ -5,9 +5,8 @@ use mathlib.Core.List.{List}
 use Prim.Native.Nat.{ℕ, _+_, _-_, _*_, _^_, _≤_, _<_}
 use native.Mathlib.Omega.{arith}
 use lib.ListN.{getD}
-use Rattle.plane.specs.Line.{Pass, columns, rows, Piece}
+use Rattle.plane.specs.Line.{Pass, columns, rows, Piece, passNo, other}
 use Rattle.standard.specs.Edge.{Frame}
-use Rattle.edges.specs.Edges.{passNo, other}
 use Rattle.mask_edges.specs.Recording as recording
 use Rattle.block.specs.declared.Block.{Block}
 use Rattle.block.specs.Block.{Lent}
@@ -22,8 +21,8 @@ use Rattle.recorded_edges.specs.Held.{placeIn, SeenIn, contextIn, Holds,
 use Rattle.recorded_edges.proofs.Views.{blockIn, given, some-unit, owned, place-is}
 use Rattle.recorded_edges.proofs.Shown.{left-is, top-is, shows}
 
-module _ (D : Frame) (plane : ℕ) (C : Coded) (luma : Bool) (b : Block) (stride : ℕ) (values tm : List ℕ) (before after : Lent)
-    (R : RecordAnswer b stride values tm 0 before after) (H : Holds D plane C luma b tm) where
+module _ (D : Frame) (plane : ℕ) (C : Coded) (luma : Bool) (b : Block) (level-stride : ℕ) (values tm : List ℕ) (before after : Lent)
+    (R : RecordAnswer b level-stride values tm 0 before after) (H : Holds D plane C luma b tm) where
   abbrev B : recording.Block
   B = blockIn luma b tm before
 
@@ -37,13 +36,13 @@ module _ (D : Frame) (plane : ℕ) (C : Coded) (luma : Bool) (b : Block) (stride
       → ((placeIn luma b d ≤ p .0) × (p .0 < placeIn luma b d + sweepOf d B .across))
       × ((placeIn luma b (other d) ≤ p .1) × (p .1 < placeIn luma b (other d) + sweepOf d B .along))
   owns d p s =
-      let o = owned b stride values tm before after R luma d p s in
-      (rw (place-is b stride values tm before after R luma d) at (o .across), rw (place-is b stride values tm before after R luma (other d)) at (o .along))
+      let o = owned b level-stride values tm before after R luma d p s in
+      (rw (place-is b level-stride values tm before after R luma d) at (o .across), rw (place-is b level-stride values tm before after R luma (other d)) at (o .along))
 
   shown : (d : Pass) (p : Piece) → SeenIn luma b d p → Shows D plane C B
   shown d p s =
-      let u = some-unit b stride values tm before after R luma d p (owned b stride values tm before after R luma d p s) in
-      shows D C b stride values tm before after R plane luma H (given b stride values tm before after R luma d p s) (u .0) (u .1)
+      let u = some-unit b level-stride values tm before after R luma d p (owned b level-stride values tm before after R luma d p s) in
+      shows D C b level-stride values tm before after R plane luma H (given b level-stride values tm before after R luma d p s) (u .0) (u .1)
 
   pub agrees : (d : Pass) (p : Piece) → SeenIn luma b d p
       → Agrees D plane (passNo d) (rowOf D plane d (p .1) (p .0)) (colOf D plane d (p .1) (p .0)) (sweepOf d B) (p .0 - placeIn luma b d) (p .1 - placeIn luma b (other d))

@@ -33,13 +33,13 @@ use Rattle.recorded_edges.specs.Example.{frameOf, codedAt, blockAt, lent
 
 -- what an accepted call leaves
 abbrev left : ℕ → ℕ → List ℕ → Lent
-left wide first l =
-    lent (lumaLevels (blockAt wide first) 18 (replicate 64 0) (replicate 144 0)) (lumaMasks (blockAt wide first) [] (2 ∷ 2 ∷ []) l (replicate 640 0))
-    (lumaAbove (blockAt wide first) [] (2 ∷ 2 ∷ [])) (lumaLeft (blockAt wide first) [] l) [] []
+left blockWidth first l =
+    lent (lumaLevels (blockAt blockWidth first) 18 (replicate 64 0) (replicate 144 0)) (lumaMasks (blockAt blockWidth first) [] (2 ∷ 2 ∷ []) l (replicate 640 0))
+    (lumaAbove (blockAt blockWidth first) [] (2 ∷ 2 ∷ [])) (lumaLeft (blockAt blockWidth first) [] l) [] []
 
-holds : (wide first before t : ℕ) → first % 2 ≡ 0 → Holds (frameOf wide first before t) 0 (codedAt first) true (blockAt wide first) []
+holds : (blockWidth first before t : ℕ) → first % 2 ≡ 0 → Holds (frameOf blockWidth first before t) 0 (codedAt first) true (blockAt blockWidth first) []
 unfolding Num_4x4_Blocks_Wide Num_4x4_Blocks_High
-holds wide first before t e =
+holds blockWidth first before t e =
     record {
       plane-is = refl;
       right-ss = refl;
@@ -116,7 +116,8 @@ unfolding bw4 bh4 Num_4x4_Blocks_Wide Num_4x4_Blocks_High Tx_Wide Tx_High log2 i
 recorded = each-at 2 (λ y. widthIn 0 (edge (gridIn true (blockAt 72 16)) (left 72 16 (2 ∷ 2 ∷ []) .masks) columns (16, y)) ≡ some 8) (refl, (refl, tt))
 
 corrected-now : (y : ℕ) → y < 2 → widthIn 0 (edge (gridIn true (blockAt 72 16)) now columns (16, y)) ≡ some 4
-unfolding bw4 bh4 Num_4x4_Blocks_Wide Num_4x4_Blocks_High Tx_Wide Tx_High log2 inRecord gridMasks gridPass blockEdge stepEdges folds.edgeBit mark unmark marks isSet hasBit bit edge edgeBit lumaBit cleared corrected correctLine
+unfolding bw4 bh4 Num_4x4_Blocks_Wide Num_4x4_Blocks_High Tx_Wide Tx_High log2 inRecord gridMasks gridPass blockEdge stepEdges folds.edgeBit mark unmark marks isSet
+    hasBit bit edge edgeBit lumaBit cleared corrected correctLine
 corrected-now = each-at 2 (λ y. widthIn 0 (edge (gridIn true (blockAt 72 16)) now columns (16, y)) ≡ some 4) (refl, (refl, tt))
 
 kept : (y : ℕ) → y < 2 → Tells 0 0 (unitAt (frameOf 72 16 0 0) 0 columns y 15) (getD (0 ∷ 0 ∷ []) y 0)
@@ -190,7 +191,8 @@ unfolding applyFilter isTxEdge isBlockEdge edgeSize filterSize filterLen Num_4x4
 uv-standard = each-at 2 (λ y. standardEdge frameUv 1 columns (2, y) ≡ some 6) (refl, (refl, tt))
 
 uv-between : (y : ℕ) → y < 2 → widthIn 1 (edge (gridIn false blockUv) (leftUv .masks) columns (2, y)) ≡ some 6
-unfolding leftUv bw4 bh4 cbw4 cbh4 Num_4x4_Blocks_Wide Num_4x4_Blocks_High Tx_Wide Tx_High log2 inRecord gridMasks gridPass blockEdge stepEdges folds.edgeBit mark marks isSet hasBit bit edge edgeBit chromaBit
+unfolding leftUv bw4 bh4 cbw4 cbh4 Num_4x4_Blocks_Wide Num_4x4_Blocks_High Tx_Wide Tx_High log2 inRecord gridMasks gridPass blockEdge stepEdges folds.edgeBit mark marks
+    isSet hasBit bit edge edgeBit chromaBit
 uv-between = each-at 2 (λ y. widthIn 1 (edge (gridIn false blockUv) (leftUv .masks) columns (2, y)) ≡ some 6) (refl, (refl, tt))
 
 pub in-chroma : InChroma

@@ -13,13 +13,13 @@ use Rattle.decomp.specs.Split.{txAt}
 use Rattle.mask_edges.specs.Recording.{intraBlock, interBlock}
 use Rattle.mask_edges.specs.Recording as recording
 use Rattle.block.specs.declared.Block.{Block}
-use Rattle.block.specs.Block.{ssx, ssy, bw4, bh4, cbw4, cbh4, Lent}
+use Rattle.block.specs.Block.{ss-hor, ss-ver, bw4, bh4, cbw4, cbh4, Lent}
 use Rattle.block.specs.Block as block
 use Rattle.block.specs.Faults.{BlockFault}
 use Rattle.block.specs.Faults as faults
 use Rattle.record.specs.Record.{RecordAnswer, cbx4, cby4}
 use Rattle.record.proofs.Answers as record-calls
-use Rattle.agree.specs.Legal.{Coded, left, top, wide, high, Shows, Sized}
+use Rattle.agree.specs.Legal.{Coded, left, top, blockWidth, blockHeight, Shows, Sized}
 use Rattle.agree.proofs.Theorems as agree
 use Rattle.drawn.proofs.Calls.{luma-shape}
 use Rattle.recorded_edges.specs.Held.{ssIn, placeIn, SeenIn, txIn, Holds}
@@ -35,10 +35,10 @@ module _ (D : Frame) (plane : ℕ) (C : Coded) (luma : Bool) (b : Block) (tm : L
   pub top-is : top D plane C ≡ placeIn luma b rows
   top-is = ap₂ chromaUnit (H .down-ss) (H .row)
 
-  wide-is : wide D plane C ≡ chromaUnits (ssIn luma b columns) (block.wide b)
+  wide-is : blockWidth D plane C ≡ chromaUnits (ssIn luma b columns) (block.blockWidth b)
   wide-is = ap₂ (λ (s c : ℕ). chromaUnits s (Num_4x4_Blocks_Wide c)) (H .right-ss) (H .size)
 
-  high-is : high D plane C ≡ chromaUnits (ssIn luma b rows) (block.high b)
+  high-is : blockHeight D plane C ≡ chromaUnits (ssIn luma b rows) (block.blockHeight b)
   high-is = ap₂ (λ (s c : ℕ). chromaUnits s (Num_4x4_Blocks_High c)) (H .down-ss) (H .size)
 
   known-at : (x y : ℕ) → SeenIn luma b columns (placeIn luma b columns + x, placeIn luma b rows + y)
@@ -51,9 +51,9 @@ module _ (D : Frame) (plane : ℕ) (C : Coded) (luma : Bool) (b : Block) (tm : L
       back : (n x : ℕ) → n + x - n ≡ x
       back n x = omega arith
 
-module _ (D : Frame) (C : Coded) (b : Block) (stride : ℕ) (values tm : List ℕ) (before after : Lent) (R : RecordAnswer b stride values tm 0 before after) where
+module _ (D : Frame) (C : Coded) (b : Block) (level-stride : ℕ) (values tm : List ℕ) (before after : Lent) (R : RecordAnswer b level-stride values tm 0 before after) where
   sound : ¬ BlockFault b
-  sound = record-calls.promises .each b stride values tm 0 before after R .zero .only refl .2
+  sound = record-calls.promises .each b level-stride values tm 0 before after R .zero .only refl .2
 
   luma-shows : Holds D 0 C true b tm → 0 < bw4 b → 0 < bh4 b → Shows D 0 C (blockIn true b tm before)
   unfolding bw4 bh4
@@ -64,10 +64,10 @@ module _ (D : Frame) (C : Coded) (b : Block) (stride : ℕ) (values tm : List �
           record {
             wide-seen = (w, omega (arith, wide-is D 0 C true b tm H));
             high-seen = (h, omega (arith, high-is D 0 C true b tm H));
-            code = fits b stride values tm before after R .tx;
+            code = fits b level-stride values tm before after R .tx;
             fits = (
-              omega (arith, wide-is D 0 C true b tm H, at-most (Tx_Wide (b .tx)) (block.wide b) (λ f. sound (faults.tx (faults.wider f)))),
-              omega (arith, high-is D 0 C true b tm H, at-most (Tx_High (b .tx)) (block.high b) (λ f. sound (faults.tx (faults.higher f)))),
+              omega (arith, wide-is D 0 C true b tm H, at-most (Tx_Wide (b .tx)) (block.blockWidth b) (λ f. sound (faults.tx (faults.wider f)))),
+              omega (arith, high-is D 0 C true b tm H, at-most (Tx_High (b .tx)) (block.blockHeight b) (λ f. sound (faults.tx (faults.higher f)))),
             );
             known = λ x y p q. known-at D 0 C true b tm H x y (record { across = omega arith; down = omega arith }) ∙ e x y;
           }
@@ -93,10 +93,10 @@ module _ (D : Frame) (C : Coded) (b : Block) (stride : ℕ) (values tm : List �
       (record {
         wide-seen = (w, omega (arith, wide-is D plane C false b tm H));
         high-seen = (h, omega (arith, high-is D plane C false b tm H));
-        code = fits b stride values tm before after R .uvtx g;
+        code = fits b level-stride values tm before after R .uvtx g;
         fits = (
-          omega (arith, wide-is D plane C false b tm H, at-most (Tx_Wide (b .uvtx)) (chromaUnits (ssx b) (block.wide b)) (λ f. sound (faults.tx (faults.uv-wider g f)))),
-          omega (arith, high-is D plane C false b tm H, at-most (Tx_High (b .uvtx)) (chromaUnits (ssy b) (block.high b)) (λ f. sound (faults.tx (faults.uv-higher g f)))),
+          omega (arith, wide-is D plane C false b tm H, at-most (Tx_Wide (b .uvtx)) (chromaUnits (ss-hor b) (block.blockWidth b)) (λ f. sound (faults.tx (faults.uv-wider g f)))),
+          omega (arith, high-is D plane C false b tm H, at-most (Tx_High (b .uvtx)) (chromaUnits (ss-ver b) (block.blockHeight b)) (λ f. sound (faults.tx (faults.uv-higher g f)))),
         );
         known = λ x y p q. known-at D plane C false b tm H x y (record { given = g; across = omega arith; down = omega arith });
       }))

@@ -11,11 +11,10 @@ use lib.Dec.{eqb, ltb}
 use lib.ListN.{getD}
 use borrow.Author.Tests.{lt-ltb, ltb-true}
 use Rattle.bits.specs.Mark.{isSet}
-use Rattle.plane.specs.Line.{Pass, columns, rows, Piece}
+use Rattle.plane.specs.Line.{Pass, columns, rows, Piece, passNo, other, passOf}
 use Rattle.standard.specs.Edge.{Frame, edgeSize}
 use Rattle.standard.specs.FilterSize.{filterLen}
-use Rattle.edges.specs.Edges.{Grid, unitsOf, classes, passNo, other, inFrame, highest, edgeBit, edge}
-use Rattle.edge_at.specs.Bit.{passOf}
+use Rattle.edges.specs.Edges.{Grid, unitsOf, classes, inFrame, highest, edgeBit, edge}
 use Rattle.mask_edges.specs.Recording.{Sweep, isEdge, classAt}
 use Rattle.mask_edges.specs.Recording as recording
 use Rattle.block.specs.declared.Block.{Block}
@@ -25,7 +24,7 @@ use Rattle.correct.specs.declared.Start.{Start}
 use Rattle.correct.specs.Start.{gridAt, begin, first}
 use Rattle.correct.specs.Answer.{CorrectAnswer}
 use Rattle.correct.specs.Promises.{CorrectedUnit}
-use Rattle.correct.proofs.Told as told
+use Rattle.correct.proofs.AnswerLaws as told
 use Rattle.agree.specs.Legal.{Coded, Tells}
 use Rattle.agree.specs.Promises.{widthOf, start, Agrees}
 use Rattle.covering.specs.Standard.{unitAt, rowOf, colOf}
@@ -56,13 +55,13 @@ inside G d p e =
 
 -- ---- an accepted call
 
-module _ (b : Block) (stride : ℕ) (values tm : List ℕ) (before after : Lent) (R : RecordAnswer b stride values tm 0 before after) where
+module _ (b : Block) (level-stride : ℕ) (values tm : List ℕ) (before after : Lent) (R : RecordAnswer b level-stride values tm 0 before after) where
   -- at every other unit nothing changes
   stays : (luma : Bool) (d : Pass) (p : Piece) → ¬ SeenIn luma b d p → inFrame (gridIn luma b) d p ≡ true
       → Stays (gridIn luma b) d p (before .masks) (after .masks)
   stays luma d p n e =
       let i = inside (gridIn luma b) d p e in
-      other-bit b stride values tm before after R luma d p n (i .0) (i .1)
+      other-bit b level-stride values tm before after R luma d p n (i .0) (i .1)
 
   edge-stays : (luma : Bool) (d : Pass) (p : Piece) → ¬ SeenIn luma b d p
       → edge (gridIn luma b) (after .masks) d p ≡ edge (gridIn luma b) (before .masks) d p
@@ -95,10 +94,10 @@ module _ (b : Block) (stride : ℕ) (values tm : List ℕ) (before after : Lent)
     k = classAt S u v
 
     A : At G (b .x .0 / 32) (b .y .0 / 32) (blockIn luma b tm before)
-    A = its-at b stride values tm before after R luma d p s
+    A = its-at b level-stride values tm before after R luma d p s
 
     within : (p .0 < unitsOf G d) × (p .1 < unitsOf G (other d))
-    within = go d (owned b stride values tm before after R luma d p s)
+    within = go d (owned b level-stride values tm before after R luma d p s)
       where
         go : (d : Pass) → Owns G (b .x .0 / 32) (b .y .0 / 32) (blockIn luma b tm before) d p → (p .0 < unitsOf G d) × (p .1 < unitsOf G (other d))
         go columns o = (omega (arith, A .right-in, o .across), omega (arith, A .down-in, o .along))
@@ -123,17 +122,17 @@ module _ (b : Block) (stride : ℕ) (values tm : List ℕ) (before after : Lent)
             → highest (classes G) (λ c. isSet (after .masks) (edgeBit G d p c)) ≡ cond e (raised k (highest (classes G) old)) (highest (classes G) old)
         go true e =
             highest-raised (classes G) old (λ c. isSet (after .masks) (edgeBit G d p c)) k low
-            (λ c h. own-bit b stride values tm before after R luma d p s c h ∙ ap (λ (x : Bool). old c || (x && eqb k c)) e)
+            (λ c h. own-bit b level-stride values tm before after R luma d p s c h ∙ ap (λ (x : Bool). old c || (x && eqb k c)) e)
         go false e =
             highest-same (classes G) old (λ c. isSet (after .masks) (edgeBit G d p c))
-            (λ c h. own-bit b stride values tm before after R luma d p s c h ∙ ap (λ (x : Bool). old c || (x && eqb k c)) e ∙ or-false (old c))
+            (λ c h. own-bit b level-stride values tm before after R luma d p s c h ∙ ap (λ (x : Bool). old c || (x && eqb k c)) e ∙ or-false (old c))
 
     module _ (D : Frame) (plane : ℕ) (C : Coded) (H : Holds D plane C luma b tm) where
       abbrev size : ℕ
       size = filterLen plane (edgeSize D plane (passNo d) (rowOf D plane d (p .1) (p .0)) (colOf D plane d (p .1) (p .0)))
 
       agreed : Agrees D plane (passNo d) (rowOf D plane d (p .1) (p .0)) (colOf D plane d (p .1) (p .0)) S u v (unitAt D plane d (p .1) (placeIn luma b d - 1))
-      agreed = agrees D plane C luma b stride values tm before after R H d p s
+      agreed = agrees D plane C luma b level-stride values tm before after R H d p s
 
       now : edge G (after .masks) d p ≡ cond (applies D plane d p) (raised k (edge G (before .masks) d p)) (edge G (before .masks) d p)
       now = edge-now ∙ ap (λ (x : Bool). cond x (raised k (edge G (before .masks) d p)) (edge G (before .masks) d p)) (agreed .edge)
@@ -149,7 +148,7 @@ module _ (b : Block) (stride : ℕ) (values tm : List ℕ) (before after : Lent)
       sized t = ap (widthIn plane) now ∙ go (applies D plane d p)
         where
           width : widthOf plane k ≡ size
-          width = agreed .width (tells D plane C luma b stride values tm before after R H d p s t)
+          width = agreed .width (tells D plane C luma b level-stride values tm before after R H d p s t)
 
           go : (e : Bool) → widthIn plane (cond e (raised k (edge G (before .masks) d p)) (edge G (before .masks) d p))
               ≡ greater (cond e (some size) none) (widthIn plane (edge G (before .masks) d p))
@@ -159,7 +158,7 @@ module _ (b : Block) (stride : ℕ) (values tm : List ℕ) (before after : Lent)
       -- ---- a tile's start
 
       module _ (at : p .0 ≡ placeIn luma b d) (clear : edge G (before .masks) d p ≡ none)
-          (high : getD (contextIn luma d before) (p .1 - placeIn luma b (other d)) 0 ≡ start plane) where
+          (blockHeight : getD (contextIn luma d before) (p .1 - placeIn luma b (other d)) 0 ≡ start plane) where
         at-0 : u ≡ 0
         at-0 = omega arith
 
@@ -171,53 +170,53 @@ module _ (b : Block) (stride : ℕ) (values tm : List ℕ) (before after : Lent)
 
         alone : (c : ℕ) → c < classes G → isSet (after .masks) (edgeBit G d p c) ≡ eqb k c
         alone c h =
-            own-bit b stride values tm before after R luma d p s c h
+            own-bit b level-stride values tm before after R luma d p s c h
             ∙ ap₂ (λ (x y : Bool). x || (y && eqb k c))
             (none-set (classes G) (λ c. isSet (before .masks) (edgeBit G d p c)) (sym (edge-inside G (before .masks) d p (within .0) (within .1)) ∙ clear) c h) is-edge
 
         kept-class : (c : ℕ) → Tells plane (passNo d) (unitAt D plane d (p .1) (p .0 - 1)) c → widthOf plane (min k c) ≡ size
         kept-class c t =
-            agreed .corrected at-0 (context-is D plane C luma b stride values tm before after R H d v ∙ high) c
+            agreed .corrected at-0 (context-is D plane C luma b level-stride values tm before after R H d v ∙ blockHeight) c
             (subst (λ (x : ℕ). Tells plane (passNo d) (unitAt D plane d (p .1) (x - 1)) c) at t)
 
         whole : some size ≡ standardEdge D plane d p
         whole = sym (ap (λ (x : Bool). cond x (some size) none) (sym (agreed .edge) ∙ is-edge))
 
-corrected : (D : Frame) (plane : ℕ) (C : Coded) (luma : Bool) (b : Block) (stride : ℕ) (values tm : List ℕ) (before after : Lent)
-    → RecordAnswer b stride values tm 0 before after → Holds D plane C luma b tm
+corrected : (D : Frame) (plane : ℕ) (C : Coded) (luma : Bool) (b : Block) (level-stride : ℕ) (values tm : List ℕ) (before after : Lent)
+    → RecordAnswer b level-stride values tm 0 before after → Holds D plane C luma b tm
     → (r : Start) (context context-uv masks masks′ : List ℕ) → CorrectAnswer r context context-uv 0 masks masks′ → 0 < begin r → gridAt r luma ≡ gridIn luma b
-    → (p : Piece) → CorrectedUnit r luma p → SeenIn luma b (passOf (r .rows)) p → p .0 ≡ placeIn luma b (passOf (r .rows))
-    → edge (gridIn luma b) (before .masks) (passOf (r .rows)) p ≡ none
-    → getD (contextIn luma (passOf (r .rows)) before) (p .1 - placeIn luma b (other (passOf (r .rows)))) 0 ≡ start plane
-    → Stays (gridIn luma b) (passOf (r .rows)) p (after .masks) masks
-    → Tells plane (passNo (passOf (r .rows))) (unitAt D plane (passOf (r .rows)) (p .1) (p .0 - 1)) (getD (cond luma context context-uv) (p .1 - first r luma) 0)
-    → widthIn plane (edge (gridIn luma b) masks′ (passOf (r .rows)) p) ≡ standardEdge D plane (passOf (r .rows)) p
-corrected D plane C luma b stride values tm before after R H r context context-uv masks masks′ A begins E p unit s at clear high kept t =
+    → (p : Piece) → CorrectedUnit r luma p → SeenIn luma b (passOf (r .rowwise)) p → p .0 ≡ placeIn luma b (passOf (r .rowwise))
+    → edge (gridIn luma b) (before .masks) (passOf (r .rowwise)) p ≡ none
+    → getD (contextIn luma (passOf (r .rowwise)) before) (p .1 - placeIn luma b (other (passOf (r .rowwise)))) 0 ≡ start plane
+    → Stays (gridIn luma b) (passOf (r .rowwise)) p (after .masks) masks
+    → Tells plane (passNo (passOf (r .rowwise))) (unitAt D plane (passOf (r .rowwise)) (p .1) (p .0 - 1)) (getD (cond luma context context-uv) (p .1 - first r luma) 0)
+    → widthIn plane (edge (gridIn luma b) masks′ (passOf (r .rowwise)) p) ≡ standardEdge D plane (passOf (r .rowwise)) p
+corrected D plane C luma b level-stride values tm before after R H r context context-uv masks masks′ A begins E p unit s at clear blockHeight kept t =
     ap (λ (G : Grid). widthIn plane (edge G masks′ d p)) (sym E)
     ∙ ap (widthIn plane)
     (told.promises .each r context context-uv 0 masks masks′ A .edges refl begins luma p unit
     ∙ ap some (new-class r context context-uv masks masks′ A begins luma p c
-    (subst (λ (G : Grid). c < classes G) (sym E) (low b stride values tm before after R luma d p s))
+    (subst (λ (G : Grid). c < classes G) (sym E) (low b level-stride values tm before after R luma d p s))
     (subst (λ (G : Grid). (i : ℕ) → i < classes G → isSet masks (edgeBit G d p i) ≡ eqb c i) (sym E)
-    (λ i h. kept i h ∙ alone b stride values tm before after R luma d p s D plane C H at clear high i h))))
-    ∙ ap some (kept-class b stride values tm before after R luma d p s D plane C H at clear high (getD (cond luma context context-uv) (p .1 - first r luma) 0) t)
-    ∙ whole b stride values tm before after R luma d p s D plane C H at clear high
+    (λ i h. kept i h ∙ alone b level-stride values tm before after R luma d p s D plane C H at clear blockHeight i h))))
+    ∙ ap some (kept-class b level-stride values tm before after R luma d p s D plane C H at clear blockHeight (getD (cond luma context context-uv) (p .1 - first r luma) 0) t)
+    ∙ whole b level-stride values tm before after R luma d p s D plane C H at clear blockHeight
   where
     d : Pass
-    d = passOf (r .rows)
+    d = passOf (r .rowwise)
 
     c : ℕ
-    c = k b stride values tm before after R luma (passOf (r .rows)) p s
+    c = k b level-stride values tm before after R luma (passOf (r .rowwise)) p s
 
 pub promises : Promises
 promises =
     record {
-      recorded = λ D plane C luma b stride values tm before after R H. record {
-        there = λ d p s. there b stride values tm before after R luma d p s D plane C H;
-        size = λ d p s. sized b stride values tm before after R luma d p s D plane C H;
+      recorded = λ D plane C luma b level-stride values tm before after R H. record {
+        there = λ d p s. there b level-stride values tm before after R luma d p s D plane C H;
+        size = λ d p s. sized b level-stride values tm before after R luma d p s D plane C H;
       };
-      others = λ luma b stride values tm before after R d p n.
-          (edge-stays b stride values tm before after R luma d p n, stays b stride values tm before after R luma d p n);
+      others = λ luma b level-stride values tm before after R d p n.
+          (edge-stays b level-stride values tm before after R luma d p n, stays b level-stride values tm before after R luma d p n);
       corrected = corrected;
       beside = beside;
       tile-start = tile-start;

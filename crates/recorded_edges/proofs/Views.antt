@@ -11,9 +11,9 @@ use native.Mathlib.Omega.{arith}
 use lib.Dec.{eqb}
 use borrow.Author.Tests.{lt-ltb}
 use Rattle.bits.specs.Mark.{isSet}
-use Rattle.plane.specs.Line.{Pass, columns, rows, Piece}
+use Rattle.plane.specs.Line.{Pass, columns, rows, Piece, other}
 use Rattle.units.proofs.Places.{ss-hor-le, ss-ver-le}
-use Rattle.edges.specs.Edges.{unitsOf, classes, other, edgeBit}
+use Rattle.edges.specs.Edges.{unitsOf, classes, edgeBit}
 use Rattle.mask_edges.specs.Recording.{isEdge, classAt}
 use Rattle.mask_edges.specs.Recording as recording
 use Rattle.block.specs.declared.Block.{Block}
@@ -21,7 +21,7 @@ use Rattle.block.specs.Block.{bw4, bh4, cbw4, cbh4, Lent}
 use Rattle.record.specs.Record.{Fitting, RecordAnswer}
 use Rattle.record.specs.Recorded.{edgeOf, lumaBlock, chromaBlock, lumaEdge, chromaEdge, Stored}
 use Rattle.record.proofs.Answers as record-calls
-use Rattle.record.proofs.Sounds.{fitting}
+use Rattle.record.proofs.SoundBlocks.{fitting}
 use Rattle.agree.proofs.Marked.{no-unit}
 use Rattle.drawn.specs.Owner.{At, Owns, placeOf, sweepOf, bitOf}
 use Rattle.drawn.proofs.Owners.{own, others}
@@ -38,18 +38,18 @@ abbrev pub givenIn : Bool → Block → Bool
 givenIn true b = true
 givenIn false b = b .chroma
 
-module _ (b : Block) (stride : ℕ) (values tm : List ℕ) (before after : Lent) (R : RecordAnswer b stride values tm 0 before after) where
+module _ (b : Block) (level-stride : ℕ) (values tm : List ℕ) (before after : Lent) (R : RecordAnswer b level-stride values tm 0 before after) where
   abbrev rx : ℕ
   rx = b .x .0 / 32
 
   abbrev ry : ℕ
   ry = b .y .0 / 32
 
-  stored : Stored b stride values tm before after
-  stored = record-calls.promises .each b stride values tm 0 before after R .accepted refl
+  stored : Stored b level-stride values tm before after
+  stored = record-calls.promises .each b level-stride values tm 0 before after R .accepted refl
 
   pub fits : Fitting b
-  fits = fitting b stride before (sym (R .code))
+  fits = fitting b level-stride before (sym (R .code))
 
   abbrev B : Bool → recording.Block
   B luma = blockIn luma b tm before

@@ -1,12 +1,12 @@
 -- Three blocks that meet the hypotheses, intra, each with one transform: two of 8x8 at 4:0:0, and one of 16x16 at 4:2:0.
---   frameOf wide first before t      the standard's frame of `wide` by 8 samples: blocks of 8x8 from unit `first` on, before it those of code `before` with transform t
+--   frameOf blockWidth first before t      the standard's frame of `blockWidth` by 8 samples: blocks of 8x8 from unit `first` on, before it those of code `before` with transform t
 --   codedAt, blockAt                 the block at unit `first`, in the frame and of the call
 --   lentWith left                    clear masks, contexts above as a frame begins, and `left` on the left
---   Beside       document 01's example of a listing: 16 by 8 samples, a block at unit 2 beside one at unit 0, whose context tells 8x8. The edge between them is 8 wide
+--   Beside       document 01's example of a listing: 16 by 8 samples, a block at unit 2 beside one at unit 0, whose context tells 8x8. The edge between them is 8 blockWidth
 --   TileStart    72 by 8 samples, the block at unit 16, where a tile begins, and so do its contexts; before it blocks of 4x4. The edge is recorded with width 8, and its
 --                correction makes it 4
 --   frameUv, codedUv, blockUv, lentUv   32 by 16 samples at 4:2:0, blocks of 16x16 with chroma transforms of 8x8; the second, at unit 4, beside the first
---   InChroma     the edge between them is 6 wide in chroma
+--   InChroma     the edge between them is 6 blockWidth in chroma
 use mathlib.Core.Bool.{true, false, cond}
 use mathlib.Core.List.{List, [], _∷_}
 use mathlib.Core.Option.{some, none}
@@ -26,9 +26,9 @@ use Rattle.covering.specs.Standard.{unitAt}
 use Rattle.recorded_edges.specs.Held.{gridIn, SeenIn, Holds, Told, standardEdge, widthIn}
 
 abbrev pub frameOf : ℕ → ℕ → ℕ → ℕ → Frame
-frameOf wide first before t =
+frameOf blockWidth first before t =
     record {
-      FrameWidth = wide;
+      FrameWidth = blockWidth;
       FrameHeight = 8;
       sx = λ _. 0;
       sy = λ _. 0;
@@ -42,7 +42,7 @@ abbrev pub codedAt : ℕ → Coded
 codedAt first = record { MiRow = 0; MiCol = first; MiSize = 3; Skip = false; isIntra = true }
 
 abbrev pub blockAt : ℕ → ℕ → Block
-blockAt wide first = intraOf wide 8 400 first 0 3 1 0 0
+blockAt blockWidth first = intraOf blockWidth 8 400 first 0 3 1 0 0
 
 abbrev pub lentWith : List ℕ → Lent
 lentWith left = lent (replicate 144 0) (replicate 640 0) (2 ∷ 2 ∷ []) left [] []

@@ -21,15 +21,15 @@ use Prim.Native.Nat.{ℕ, _-_, _<_, max}
 use lib.Dec.{eqb}
 use lib.ListN.{getD}
 use Rattle.bits.specs.Mark.{isSet}
-use Rattle.plane.specs.Line.{Pass, columns, rows, Piece}
+use Rattle.plane.specs.Line.{Pass, columns, rows, Piece, passNo, other}
 use Rattle.plane.specs.Plane.{right, down}
 use Rattle.standard.specs.Edge.{Frame, applyFilter, edgeSize}
 use Rattle.standard.specs.FilterSize.{filterLen}
 use Rattle.units.specs.Units.{chromaUnit}
-use Rattle.edges.specs.Edges.{Grid, lumaGrid, chromaGrid, classes, passNo, other, edgeBit}
+use Rattle.edges.specs.Edges.{Grid, lumaGrid, chromaGrid, classes, edgeBit}
 use Rattle.decomp.specs.Split.{txAt}
 use Rattle.block.specs.declared.Block.{Block}
-use Rattle.block.specs.Block.{w4, h4, ssx, ssy, Lent}
+use Rattle.block.specs.Block.{w4, h4, ss-hor, ss-ver, Lent}
 use Rattle.record.specs.Recorded.{LumaSeen, ChromaSeen}
 use Rattle.agree.specs.Legal.{Coded, Legal, Tells}
 use Rattle.agree.specs.Promises.{widthOf}
@@ -39,8 +39,8 @@ use Rattle.covering.specs.Standard.{unitAt, rowOf, colOf}
 
 abbrev pub ssIn : Bool → Block → Pass → ℕ
 ssIn true b d = 0
-ssIn false b columns = ssx b
-ssIn false b rows = ssy b
+ssIn false b columns = ss-hor b
+ssIn false b rows = ss-ver b
 
 abbrev pub placeIn : Bool → Block → Pass → ℕ
 placeIn luma b columns = chromaUnit (ssIn luma b columns) (b .x .0)
@@ -48,7 +48,7 @@ placeIn luma b rows = chromaUnit (ssIn luma b rows) (b .y .0)
 
 abbrev pub gridIn : Bool → Block → Grid
 gridIn true b = lumaGrid (w4 b) (h4 b)
-gridIn false b = chromaGrid (ssx b) (ssy b) (w4 b) (h4 b)
+gridIn false b = chromaGrid (ss-hor b) (ss-ver b) (w4 b) (h4 b)
 
 abbrev pub SeenIn : Bool → Block → Pass → Piece → Type 0
 SeenIn true b d p = LumaSeen b (right d p) (down d p)

@@ -7,10 +7,9 @@ use mathlib.Core.Option.{none}
 use mathlib.Core.Path.{_≡_}
 use Prim.Native.Nat.{ℕ, _-_, _<_}
 use lib.ListN.{getD}
-use Rattle.plane.specs.Line.{Pass, Piece}
+use Rattle.plane.specs.Line.{Pass, Piece, passNo, other, passOf}
 use Rattle.standard.specs.Edge.{Frame}
-use Rattle.edges.specs.Edges.{passNo, other, inFrame, edge}
-use Rattle.edge_at.specs.Bit.{passOf}
+use Rattle.edges.specs.Edges.{inFrame, edge}
 use Rattle.block.specs.declared.Block.{Block}
 use Rattle.block.specs.Block.{Lent}
 use Rattle.record.specs.Record.{RecordAnswer}
@@ -33,24 +32,24 @@ pub record Adds (D : Frame) (plane : ℕ) (luma : Bool) (b : Block) (before afte
       → widthIn plane (edge (gridIn luma b) (after .masks) d p) ≡ greater (standardEdge D plane d p) (widthIn plane (edge (gridIn luma b) (before .masks) d p))
 
 pub record Promises : Type 0 where
-  pub recorded : (D : Frame) (plane : ℕ) (C : Coded) (luma : Bool) (b : Block) (stride : ℕ) (values tm : List ℕ) (before after : Lent)
-      → RecordAnswer b stride values tm 0 before after → Holds D plane C luma b tm → Adds D plane luma b before after
+  pub recorded : (D : Frame) (plane : ℕ) (C : Coded) (luma : Bool) (b : Block) (level-stride : ℕ) (values tm : List ℕ) (before after : Lent)
+      → RecordAnswer b level-stride values tm 0 before after → Holds D plane C luma b tm → Adds D plane luma b before after
   -- at every other unit nothing changes, whatever the frame
-  pub others : (luma : Bool) (b : Block) (stride : ℕ) (values tm : List ℕ) (before after : Lent) → RecordAnswer b stride values tm 0 before after
+  pub others : (luma : Bool) (b : Block) (level-stride : ℕ) (values tm : List ℕ) (before after : Lent) → RecordAnswer b level-stride values tm 0 before after
       → (d : Pass) (p : Piece) → ¬ SeenIn luma b d p
       → (edge (gridIn luma b) (after .masks) d p ≡ edge (gridIn luma b) (before .masks) d p)
       × (inFrame (gridIn luma b) d p ≡ true → Stays (gridIn luma b) d p (before .masks) (after .masks))
   -- at a tile's start, where contexts hold the highest class, the correction whose context holds the class of the transform before gives the standard's edge;
   -- between the two calls the unit's bits stay
-  pub corrected : (D : Frame) (plane : ℕ) (C : Coded) (luma : Bool) (b : Block) (stride : ℕ) (values tm : List ℕ) (before after : Lent)
-      → RecordAnswer b stride values tm 0 before after → Holds D plane C luma b tm
+  pub corrected : (D : Frame) (plane : ℕ) (C : Coded) (luma : Bool) (b : Block) (level-stride : ℕ) (values tm : List ℕ) (before after : Lent)
+      → RecordAnswer b level-stride values tm 0 before after → Holds D plane C luma b tm
       → (r : Start) (context context-uv masks masks′ : List ℕ) → CorrectAnswer r context context-uv 0 masks masks′ → 0 < begin r → gridAt r luma ≡ gridIn luma b
-      → (p : Piece) → CorrectedUnit r luma p → SeenIn luma b (passOf (r .rows)) p → p .0 ≡ placeIn luma b (passOf (r .rows))
-      → edge (gridIn luma b) (before .masks) (passOf (r .rows)) p ≡ none
-      → getD (contextIn luma (passOf (r .rows)) before) (p .1 - placeIn luma b (other (passOf (r .rows)))) 0 ≡ start plane
-      → Stays (gridIn luma b) (passOf (r .rows)) p (after .masks) masks
-      → Tells plane (passNo (passOf (r .rows))) (unitAt D plane (passOf (r .rows)) (p .1) (p .0 - 1)) (getD (cond luma context context-uv) (p .1 - first r luma) 0)
-      → widthIn plane (edge (gridIn luma b) masks′ (passOf (r .rows)) p) ≡ standardEdge D plane (passOf (r .rows)) p
+      → (p : Piece) → CorrectedUnit r luma p → SeenIn luma b (passOf (r .rowwise)) p → p .0 ≡ placeIn luma b (passOf (r .rowwise))
+      → edge (gridIn luma b) (before .masks) (passOf (r .rowwise)) p ≡ none
+      → getD (contextIn luma (passOf (r .rowwise)) before) (p .1 - placeIn luma b (other (passOf (r .rowwise)))) 0 ≡ start plane
+      → Stays (gridIn luma b) (passOf (r .rowwise)) p (after .masks) masks
+      → Tells plane (passNo (passOf (r .rowwise))) (unitAt D plane (passOf (r .rowwise)) (p .1) (p .0 - 1)) (getD (cond luma context context-uv) (p .1 - first r luma) 0)
+      → widthIn plane (edge (gridIn luma b) masks′ (passOf (r .rowwise)) p) ≡ standardEdge D plane (passOf (r .rowwise)) p
   -- blocks that meet the hypotheses, and the edges that they leave
   pub beside : Beside
   pub tile-start : TileStart

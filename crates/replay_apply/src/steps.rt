@@ -13,8 +13,8 @@ fn stride_at(step: &[u8; 96], at: usize) -> usize
     requires { ⌜ at + 8 ≤ 96 ⌝ }
 {
     let low = wire::u32_at(step, at) as usize;
-    let high = wire::u32_at(step, at + 4) as usize;
-    high * 4294967296 + low
+    let height = wire::u32_at(step, at + 4) as usize;
+    height * 4294967296 + low
 }
 
 fn put_byte(to: &mut [u8], at: u32, value: u32) {

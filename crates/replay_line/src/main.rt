@@ -54,42 +54,42 @@ fn load_8(case: &[u8; 32], down: bool) -> [u8; 64] {
     s
 }
 
-fn filter_16(s: &mut [u16; 64], sa: usize, st: usize, wd: u32, t: Bounds)
-    requires { ⌜ (0 < t .half) × (t .half ≤ 2048) × Capped (2 * t .half - 1) (now s) × (3 * sa + 13 * st < 64) ⌝ }
+fn filter_16(s: &mut [u16; 64], line_step: usize, sample_step: usize, wd: u32, t: Bounds)
+    requires { ⌜ (0 < t .half) × (t .half ≤ 2048) × Capped (2 * t .half - 1) (now s) × (3 * «line_step» + 13 * «sample_step» < 64) ⌝ }
 {
-    let q = 7 * st;
+    let q = 7 * sample_step;
     if wd == 4 {
-        piece::piece_16(s, q, sa, st, 4, t);
+        piece::piece_16(s, q, line_step, sample_step, 4, t);
         return;
     }
     if wd == 6 {
-        piece::piece_16(s, q, sa, st, 6, t);
+        piece::piece_16(s, q, line_step, sample_step, 6, t);
         return;
     }
     if wd == 8 {
-        piece::piece_16(s, q, sa, st, 8, t);
+        piece::piece_16(s, q, line_step, sample_step, 8, t);
         return;
     }
-    piece::piece_16(s, q, sa, st, 16, t);
+    piece::piece_16(s, q, line_step, sample_step, 16, t);
 }
 
-fn filter_8(s: &mut [u8; 64], sa: usize, st: usize, wd: u32, t: Bounds)
-    requires { ⌜ (t .f ≡ 1) × (t .half ≡ 128) × (3 * sa + 13 * st < 64) ⌝ }
+fn filter_8(s: &mut [u8; 64], line_step: usize, sample_step: usize, wd: u32, t: Bounds)
+    requires { ⌜ (t .f ≡ 1) × (t .half ≡ 128) × (3 * «line_step» + 13 * «sample_step» < 64) ⌝ }
 {
-    let q = 7 * st;
+    let q = 7 * sample_step;
     if wd == 4 {
-        piece::piece_8(s, q, sa, st, 4, t);
+        piece::piece_8(s, q, line_step, sample_step, 4, t);
         return;
     }
     if wd == 6 {
-        piece::piece_8(s, q, sa, st, 6, t);
+        piece::piece_8(s, q, line_step, sample_step, 6, t);
         return;
     }
     if wd == 8 {
-        piece::piece_8(s, q, sa, st, 8, t);
+        piece::piece_8(s, q, line_step, sample_step, 8, t);
         return;
     }
-    piece::piece_8(s, q, sa, st, 16, t);
+    piece::piece_8(s, q, line_step, sample_step, 16, t);
 }
 
 fn scaled(x: u32, scale: u32) -> u32

@@ -4,7 +4,7 @@ ghost use Rattle.io.specs.Counts.{Counts};
 ghost use Prim.Native.Nat.{_≤_};
 use libc::STDIN_FILENO;
 use libc::STDOUT_FILENO;
-use reading::listed;
+use list_reading::listed;
 
 const WRITTEN: usize = 4096;
 
@@ -31,7 +31,7 @@ fn read_rest(script: &mut [u8], read: usize, total: usize) {
 
 fn compare(script: &[u8], text: &[u8]) {
     let mut out = [0u8; 393255];
-    let n = listing::list(script, &mut out);
+    let n = list_call::list(script, &mut out);
     let m = bytes(n, &out);
     if !check::same(text, &out[..m]) {
         io::write_all(STDOUT_FILENO, b"the listing of the whole script differs\n");

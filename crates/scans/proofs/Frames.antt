@@ -29,14 +29,14 @@ row-most : (ss sb4 : ℕ) → ss ≤ 1 → Superblock sb4 → chromaUnit ss sb4 
 row-most = by-shape (λ ss sb4. chromaUnit ss sb4 ≤ 32) (omega arith) (omega arith) (omega arith) (omega arith)
 
 -- luma is at ss 0
-pub levels-row : (len stride w4 h4 ss-hor ss-ver sb4 k wide high sb : ℕ) → LevelsFit len stride w4 h4 sb4 k → ss-hor ≤ 1 → ss-ver ≤ 1
-    → wide ≡ chromaUnits ss-hor w4 → high ≡ chromaUnits ss-ver h4 → sb ≡ chromaUnit ss-ver sb4 → LevelsRow len stride wide high sb k
-levels-row len stride w4 h4 ss-hor ss-ver sb4 k wide high sb f p q ew eh es =
+pub levels-row : (len stride w4 h4 ss-hor ss-ver sb4 k width height sb : ℕ) → LevelsFit len stride w4 h4 sb4 k → ss-hor ≤ 1 → ss-ver ≤ 1
+    → width ≡ chromaUnits ss-hor w4 → height ≡ chromaUnits ss-ver h4 → sb ≡ chromaUnit ss-ver sb4 → LevelsRow len stride width height sb k
+levels-row len stride w4 h4 ss-hor ss-ver sb4 k width height sb f p q ew eh es =
     let x = chroma-units-le w4 ss-hor p in
     let y = chroma-units-le h4 ss-ver q in
     record {
-      right = omega (arith, f .wide);
-      some = omega (arith, f .some, f .wide);
+      right = omega (arith, f .width);
+      some = omega (arith, f .some, f .width);
       long = rw eh (omega (arith, f .long, mul-le-mul-right stride y, mul-comm stride h4));
       down = rw (eh, es) (plane-row ss-ver h4 sb4 k q (f .row));
       most = omega (arith, f .row .most);
@@ -48,10 +48,10 @@ stored-row ss height sb4 k h r =
     by-shape (λ ss sb4. k * sb4 < unitsOf height → 4 * ((k + 1) * chromaUnit ss sb4) ≤ stored height ss) (λ d. omega arith) (λ d. omega arith)
     (λ d. omega arith) (λ d. omega arith) ss sb4 h (r .size) (r .down)
 
-pub samples-row : (len stride width height ss-hor ss-ver sb4 k wide sb : ℕ) → SamplesFit len stride width height ss-hor ss-ver sb4 k → ss-hor ≤ 1 → ss-ver ≤ 1
-    → wide ≡ stored width ss-hor → sb ≡ chromaUnit ss-ver sb4 → (4 * ((k + 1) * sb) * stride ≤ len) × (wide ≤ stride) × (0 < stride)
-samples-row len stride width height ss-hor ss-ver sb4 k wide sb f p q ew es = (
+pub samples-row : (len stride width height ss-hor ss-ver sb4 k w sb : ℕ) → SamplesFit len stride width height ss-hor ss-ver sb4 k → ss-hor ≤ 1 → ss-ver ≤ 1
+    → w ≡ stored width ss-hor → sb ≡ chromaUnit ss-ver sb4 → (4 * ((k + 1) * sb) * stride ≤ len) × (w ≤ stride) × (0 < stride)
+samples-row len stride width height ss-hor ss-ver sb4 k w sb f p q ew es = (
   rw es (omega (arith, f .long, mul-le-mul-right stride (stored-row ss-ver height sb4 k q (f .row)), mul-comm stride (stored height ss-ver))),
-  omega (arith, f .wide),
-  omega (arith, f .wide, stored-some width ss-hor p (f .some)),
+  omega (arith, f .right),
+  omega (arith, f .right, stored-some width ss-hor p (f .some)),
 )

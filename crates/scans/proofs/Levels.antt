@@ -36,18 +36,18 @@ module _ (ls : List ℕ) (h : (i : ℕ) → getD ls i 0 < 256) where
         ∙ or-same w _ (λ x. getD ls (levelAt stride x y j) 0) (λ x _. byte-level x y))
         ∙ above-orBelow 6 w (λ x. getD ls (levelAt stride x y j) 0)
 
-    pub levels-high : (high sb above k r : ℕ) → r ≡ orLevels ls stride w (k * sb - above) (min high ((k + 1) * sb) - (k * sb - above))
-        → ltb 63 (r / 2 ^ (8 * j) % 2 ^ 8) ≡ levelsHigh ls stride j w high sb above k
+    pub levels-high : (height sb above k r : ℕ) → r ≡ orLevels ls stride w (k * sb - above) (min height ((k + 1) * sb) - (k * sb - above))
+        → ltb 63 (r / 2 ^ (8 * j) % 2 ^ 8) ≡ levelsHigh ls stride j w height sb above k
     unfolding levelsHigh
-    levels-high high sb above k r e =
+    levels-high height sb above k r e =
         ap (λ (v : ℕ). ltb 63 (v / 2 ^ (8 * j) % 2 ^ 8)) e
-        ∙ ap (ltb 63) (field-orBelow (8 * j) 8 (min high ((k + 1) * sb) - (k * sb - above)) (λ i. orUnits ls w (4 * ((k * sb - above + i) * stride))))
-        ∙ above-orBelow 6 (min high ((k + 1) * sb) - (k * sb - above)) (λ i. orUnits ls w (4 * ((k * sb - above + i) * stride)) / 2 ^ (8 * j) % 2 ^ 8)
-        ∙ any-same (min high ((k + 1) * sb) - (k * sb - above)) _ _ (λ i _. line-high (k * sb - above + i))
+        ∙ ap (ltb 63) (field-orBelow (8 * j) 8 (min height ((k + 1) * sb) - (k * sb - above)) (λ i. orUnits ls w (4 * ((k * sb - above + i) * stride))))
+        ∙ above-orBelow 6 (min height ((k + 1) * sb) - (k * sb - above)) (λ i. orUnits ls w (4 * ((k * sb - above + i) * stride)) / 2 ^ (8 * j) % 2 ^ 8)
+        ∙ any-same (min height ((k + 1) * sb) - (k * sb - above)) _ _ (λ i _. line-high (k * sb - above + i))
 
-  pub chroma-levels : (stride w4 h4 ss-hor ss-ver sb4 pass k wide high sb r : ℕ) (u v : Bool) → wide ≡ chromaUnits ss-hor w4 → high ≡ chromaUnits ss-ver h4
-      → sb ≡ chromaUnit ss-ver sb4 → r ≡ orLevels ls stride wide (k * sb - pass) (min high ((k + 1) * sb) - (k * sb - pass))
+  pub chroma-levels : (stride w4 h4 ss-hor ss-ver sb4 pass k width height sb r : ℕ) (u v : Bool) → width ≡ chromaUnits ss-hor w4 → height ≡ chromaUnits ss-ver h4
+      → sb ≡ chromaUnit ss-ver sb4 → r ≡ orLevels ls stride width (k * sb - pass) (min height ((k + 1) * sb) - (k * sb - pass))
       → u ≡ ltb 63 (r / 2 ^ (8 * 2) % 2 ^ 8) → v ≡ ltb 63 (r / 2 ^ (8 * 3) % 2 ^ 8) → (u || v) ≡ chromaLevelsHigh ls stride w4 h4 ss-hor ss-ver sb4 pass k
-  chroma-levels stride w4 h4 ss-hor ss-ver sb4 pass k wide high sb r u v ew eh es e eu ev =
-      ap₂ _||_ (eu ∙ levels-high stride wide 2 (omega arith) high sb pass k r e) (ev ∙ levels-high stride wide 3 (omega arith) high sb pass k r e)
+  chroma-levels stride w4 h4 ss-hor ss-ver sb4 pass k width height sb r u v ew eh es e eu ev =
+      ap₂ _||_ (eu ∙ levels-high stride width 2 (omega arith) height sb pass k r e) (ev ∙ levels-high stride width 3 (omega arith) height sb pass k r e)
       ∙ (λ i. levelsHigh ls stride 2 (ew i) (eh i) (es i) pass k || levelsHigh ls stride 3 (ew i) (eh i) (es i) pass k)

@@ -2,4 +2,4 @@ pub mod Rows
 pub mod Frames
 pub mod Levels
 pub mod Samples
-pub mod Told
+pub mod NumbersMean

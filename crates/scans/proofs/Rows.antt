@@ -18,13 +18,13 @@ next-row k sb = omega (arith, add-mul k 1 sb)
 
 -- the lines of row k, and `above` before them, as the code counts them
 module _ (k sb above first : ℕ) (ef : first ≡ k * sb - above) where
-  pub row-cells : (high last stride len : ℕ) → last ≡ min high (k * sb + sb) → k * sb < high → 4 * (high * stride) ≤ len
+  pub row-cells : (height last stride len : ℕ) → last ≡ min height (k * sb + sb) → k * sb < height → 4 * (height * stride) ≤ len
       → 4 * ((first + (last - first)) * stride) ≤ len
-  row-cells high last stride len el h l =
-      let e : first + (last - first) ≤ high = omega arith in omega (arith, mul-le-mul-right stride e)
+  row-cells height last stride len el h l =
+      let e : first + (last - first) ≤ height = omega arith in omega (arith, mul-le-mul-right stride e)
 
-  pub row-count : (high last : ℕ) → last ≡ min high (k * sb + sb) → last - first ≡ min high ((k + 1) * sb) - (k * sb - above)
-  row-count high last el = omega (arith, next-row k sb)
+  pub row-count : (height last : ℕ) → last ≡ min height (k * sb + sb) → last - first ≡ min height ((k + 1) * sb) - (k * sb - above)
+  row-count height last el = omega (arith, next-row k sb)
 
   pub rows-count : (k * sb + sb) - first ≡ (k + 1) * sb - (k * sb - above)
   rows-count = omega (arith, next-row k sb)

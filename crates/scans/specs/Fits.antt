@@ -3,7 +3,7 @@
 --   SbRow           the row lies in the frame
 --   LevelsFit       and the level bytes hold the frame's units
 --   SamplesFit      and the plane holds its stored samples
---   LevelsRow       what the scan of one plane's levels asks: wide by high units of it in the frame, sb lines of them a row
+--   LevelsRow       what the scan of one plane's levels asks: width by height units of it in the frame, sb lines of them a row
 use mathlib.Core.Path.{_≡_}
 use mathlib.Core.Logic.{_⊎_}
 use Prim.Native.Nat.{ℕ, _*_, _<_, _≤_}
@@ -22,20 +22,20 @@ pub record LevelsFit (len stride w4 h4 sb4 k : ℕ) : Type 0 where
   pub row : SbRow h4 sb4 k
   pub some : 0 < w4
   pub most : w4 ≤ 4096
-  pub wide : w4 ≤ stride
+  pub width : w4 ≤ stride
   pub long : 4 * stride * h4 ≤ len
 
 pub record SamplesFit (len stride width height ss-hor ss-ver sb4 k : ℕ) : Type 0 where
   pub row : SbRow (unitsOf height) sb4 k
   pub some : 0 < width
   pub most : width ≤ 16384
-  pub wide : stored width ss-hor ≤ stride
+  pub right : stored width ss-hor ≤ stride
   pub long : stride * stored height ss-ver ≤ len
 
-pub record LevelsRow (len stride wide high sb k : ℕ) : Type 0 where
-  pub right : wide ≤ stride
+pub record LevelsRow (len stride width height sb k : ℕ) : Type 0 where
+  pub right : width ≤ stride
   pub some : 0 < stride
-  pub long : 4 * (high * stride) ≤ len
-  pub down : k * sb < high
-  pub most : high ≤ 4096
+  pub long : 4 * (height * stride) ≤ len
+  pub down : k * sb < height
+  pub most : height ≤ 4096
   pub few : sb ≤ 32

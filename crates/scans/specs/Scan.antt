@@ -1,7 +1,7 @@
 -- Numbers 8 and 9 in superblock row k, of sb lines of units of a plane. `above` is how many lines before the row's own are looked at too.
 --   someFrom        some number from a on, below b, passes a test
 --   levelHigh       a level byte is above 63
---   levelsHigh      number 8 of one kind of level: that of some unit in the frame, which has wide by high of them, in the row's lines
+--   levelsHigh      number 8 of one area of level: that of some unit in the frame, which has width by height of them, in the row's lines
 --   lumaLevelsHigh, chromaLevelsHigh     that of luma, and of U or V, in a frame of w4 by h4 luma units and superblocks of sb4; pass is 0 for columns, 1 for rows
 --   sampleHigh      a sample is above max
 --   samplesHigh     number 9 of the samples: some sample of the stored width, in the row's stored lines, four to a unit
@@ -18,11 +18,11 @@ abbrev pub someFrom : ℕ → ℕ → (ℕ → Bool) → Bool
 someFrom a b test = anyBelow (b - a) (λ i. test (a + i))
 
 abbrev pub levelHigh : List ℕ → ℕ → ℕ → ℕ → ℕ → Bool
-levelHigh ls stride kind x y = ltb 63 (getD ls (levelAt stride x y kind) 0)
+levelHigh ls stride area x y = ltb 63 (getD ls (levelAt stride x y area) 0)
 
 unfoldable pub levelsHigh : List ℕ → ℕ → ℕ → ℕ → ℕ → ℕ → ℕ → ℕ → Bool
-levelsHigh ls stride kind wide high sb above k =
-    someFrom (k * sb - above) (min high ((k + 1) * sb)) (λ y. anyBelow wide (λ x. levelHigh ls stride kind x y))
+levelsHigh ls stride area width height sb above k =
+    someFrom (k * sb - above) (min height ((k + 1) * sb)) (λ y. anyBelow width (λ x. levelHigh ls stride area x y))
 
 abbrev pub lumaLevelsHigh : List ℕ → ℕ → ℕ → ℕ → ℕ → ℕ → ℕ → Bool
 lumaLevelsHigh ls stride w4 h4 sb4 pass k = levelsHigh ls stride pass w4 h4 sb4 pass k
@@ -36,5 +36,5 @@ abbrev pub sampleHigh : List ℕ → ℕ → ℕ → ℕ → ℕ → Bool
 sampleHigh s stride max x y = ltb max (getD s (y * stride + x) 0)
 
 unfoldable pub samplesHigh : List ℕ → ℕ → ℕ → ℕ → ℕ → ℕ → ℕ → Bool
-samplesHigh s stride max wide sb above k =
-    someFrom (4 * (k * sb) - above) (4 * ((k + 1) * sb)) (λ y. anyBelow wide (λ x. sampleHigh s stride max x y))
+samplesHigh s stride max width sb above k =
+    someFrom (4 * (k * sb) - above) (4 * ((k + 1) * sb)) (λ y. anyBelow width (λ x. sampleHigh s stride max x y))

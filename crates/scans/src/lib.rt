@@ -50,29 +50,29 @@ fn or_levels(levels: &[u8], stride: usize, w: usize, first: usize, n: usize) -> 
     acc
 }
 
-// The levels of row k, all kinds at once: those of wide by high units, in the row's lines and `above` before them.
+// The levels of row k, all kinds at once: those of width by height units, in the row's lines and `above` before them.
 fn row_levels(
     levels: &[u8],
     stride: usize,
-    wide: usize,
-    high: usize,
+    width: usize,
+    height: usize,
     sb: usize,
     above: usize,
     k: usize,
 ) -> u32
-    requires { ⌜ LevelsRow (length (now levels)) stride wide high sb k ⌝ }
-    ensures { λ r. ⌜ r ≡ orLevels (now (levels .entry)) stride wide (k * sb - above) (min high ((k + 1) * sb) - (k * sb - above)) ⌝ }
+    requires { ⌜ LevelsRow (length (now levels)) stride width height sb k ⌝ }
+    ensures { λ r. ⌜ r ≡ orLevels (now (levels .entry)) stride width (k * sb - above) (min height ((k + 1) * sb) - (k * sb - above)) ⌝ }
 {
     let first = over(k * sb, above);
-    let last = least(high, k * sb + sb);
-    or_levels(levels, stride, wide, first, last - first)
+    let last = least(height, k * sb + sb);
+    or_levels(levels, stride, width, first, last - first)
 }
 
-fn byte_high(r: u32, kind: u32) -> bool
-    requires { ⌜ kind < 4 ⌝ }
-    ensures { λ h. ⌜ h ≡ ltb 63 (r / 2 ^ (8 * kind) % 2 ^ 8) ⌝ }
+fn byte_high(r: u32, area: u32) -> bool
+    requires { ⌜ area < 4 ⌝ }
+    ensures { λ h. ⌜ h ≡ ltb 63 (r / 2 ^ (8 * area) % 2 ^ 8) ⌝ }
 {
-    63 < (r >> (8 * kind)) % 256
+    63 < (r >> (8 * area)) % 256
 }
 
 // Number 8 of luma; pass is 0 for columns, 1 for rows.
@@ -107,10 +107,10 @@ pub fn chroma_levels_high(
     requires { ⌜ LevelsFit (length (now levels)) stride (w4 .0) (h4 .0) (sb4 .0) k × («ss_hor» ≤ 1) × («ss_ver» ≤ 1) ⌝ }
     ensures { λ r. ⌜ r ≡ chromaLevelsHigh (now (levels .entry)) stride (w4 .0) (h4 .0) «ss_hor» «ss_ver» (sb4 .0) pass k ⌝ }
 {
-    let wide = units::chroma_units(w4, ss_hor);
-    let high = units::chroma_units(h4, ss_ver);
+    let width = units::chroma_units(w4, ss_hor);
+    let height = units::chroma_units(h4, ss_ver);
     let sb = units::chroma_unit(sb4, ss_ver);
-    let r = row_levels(levels, stride, wide.0, high.0, sb.0, pass, k);
+    let r = row_levels(levels, stride, width.0, height.0, sb.0, pass, k);
     byte_high(r, 2) | byte_high(r, 3)
 }
 
@@ -172,9 +172,9 @@ pub fn samples_high(
     requires { ⌜ SamplesFit (length (now s)) stride (width .0) (height .0) «ss_hor» «ss_ver» (sb4 .0) k × («ss_hor» ≤ 1) × («ss_ver» ≤ 1) × (depth < 16) × (pass < 2) ⌝ }
     ensures { λ r. ⌜ r ≡ samplesHigh (now (s .entry)) stride (2 ^ depth - 1) (stored (width .0) «ss_hor») (chromaUnit «ss_ver» (sb4 .0)) (8 * pass) k ⌝ }
 {
-    let wide = units::frame::stored_side(width, ss_hor);
+    let stored = units::frame::stored_side(width, ss_hor);
     let sb = units::chroma_unit(sb4, ss_ver);
-    let r = row_samples(s, stride, wide.0, sb.0, pass, k);
+    let r = row_samples(s, stride, stored.0, sb.0, pass, k);
     r >> depth != 0
 }
 

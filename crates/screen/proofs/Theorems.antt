@@ -14,7 +14,7 @@ use Rattle.standard.specs.Edge.{Frame, onScreen}
 use Rattle.units.specs.Units.{chromaUnit, chromaUnits}
 use Rattle.units.proofs.Places.{ss-hor-le, ss-ver-le}
 use Rattle.block.specs.declared.Block.{Block}
-use Rattle.block.specs.Block.{w4, h4, wide, high, ssx, ssy, bw4, bh4, chromaSide, cbw4, cbh4}
+use Rattle.block.specs.Block.{w4, h4, blockWidth, blockHeight, ss-hor, ss-ver, bw4, bh4, chromaSide, cbw4, cbh4}
 use Rattle.record.specs.Recorded.{LumaSeen, ChromaSeen}
 use Rattle.screen.specs.Screen.{shown, unitsIn, InFrame, AtStart, of-columns, of-rows, Taken, UnitOf}
 use Rattle.screen.specs.Promises.{Promises}
@@ -91,17 +91,17 @@ cut : (all at n u : ℕ) → (at ≤ u) × (u < at + n) → Exactly ((at ≤ u) 
 cut all at n u h = record { only = λ l. omega arith; always = λ l. omega arith }
 
 module _ (D : Frame) (plane : ℕ) (b : Block) (hor ver : ℕ) (t : Taken D plane b hor ver) (x y : ℕ) (u : UnitOf D plane b x y) where
-  across : Exactly ((chromaUnit hor (b .x .0) ≤ x) × (x < chromaUnit hor (b .x .0) + chromaSide (w4 b) (b .x .0) (wide b) hor))
+  across : Exactly ((chromaUnit hor (b .x .0) ≤ x) × (x < chromaUnit hor (b .x .0) + chromaSide (w4 b) (b .x .0) (blockWidth b) hor))
       (x < unitsIn (D .sx plane) (D .FrameWidth))
   across =
-      rw (t .wide, t .right-ss)
-      (cut (chromaUnits hor (w4 b)) (chromaUnit hor (b .x .0)) (chromaUnits hor (wide b)) x (rw (t .right-ss) at (u .across)))
+      rw (t .width, t .right-ss)
+      (cut (chromaUnits hor (w4 b)) (chromaUnit hor (b .x .0)) (chromaUnits hor (blockWidth b)) x (rw (t .right-ss) at (u .across)))
 
-  down : Exactly ((chromaUnit ver (b .y .0) ≤ y) × (y < chromaUnit ver (b .y .0) + chromaSide (h4 b) (b .y .0) (high b) ver))
+  down : Exactly ((chromaUnit ver (b .y .0) ≤ y) × (y < chromaUnit ver (b .y .0) + chromaSide (h4 b) (b .y .0) (blockHeight b) ver))
       (y < unitsIn (D .sy plane) (D .FrameHeight))
   down =
-      rw (t .high, t .down-ss)
-      (cut (chromaUnits ver (h4 b)) (chromaUnit ver (b .y .0)) (chromaUnits ver (high b)) y (rw (t .down-ss) at (u .down)))
+      rw (t .height, t .down-ss)
+      (cut (chromaUnits ver (h4 b)) (chromaUnit ver (b .y .0)) (chromaUnits ver (blockHeight b)) y (rw (t .down-ss) at (u .down)))
 
 luma : (D : Frame) (b : Block) → Taken D 0 b 0 0 → (x y : ℕ) → UnitOf D 0 b x y → Exactly (LumaSeen b x y) (InFrame D 0 x y)
 unfolding bw4 bh4
@@ -113,12 +113,12 @@ luma D b t x y u =
       always = λ i. record { across = omega (arith, a .always (i .across)); down = omega (arith, d .always (i .down)) };
     }
 
-chroma : (D : Frame) (plane : ℕ) (b : Block) → Taken D plane b (ssx b) (ssy b) → b .chroma ≡ true → (x y : ℕ) → UnitOf D plane b x y
+chroma : (D : Frame) (plane : ℕ) (b : Block) → Taken D plane b (ss-hor b) (ss-ver b) → b .chroma ≡ true → (x y : ℕ) → UnitOf D plane b x y
     → Exactly (ChromaSeen b x y) (InFrame D plane x y)
 unfolding cbw4 cbh4
 chroma D plane b t g x y u =
-    let a = across D plane b (ssx b) (ssy b) t x y u in
-    let d = down D plane b (ssx b) (ssy b) t x y u in
+    let a = across D plane b (ss-hor b) (ss-ver b) t x y u in
+    let d = down D plane b (ss-hor b) (ss-ver b) t x y u in
     record {
       only = λ s. record { across = a .only (s .across); down = d .only (s .down) };
       always = λ i. record { given = g; across = a .always (i .across); down = d .always (i .down) };

@@ -5,7 +5,7 @@ use Prim.Native.Nat.{ℕ, _≤_}
 use Rattle.loops.specs.Exactly.{Exactly}
 use Rattle.standard.specs.Edge.{Frame}
 use Rattle.block.specs.declared.Block.{Block}
-use Rattle.block.specs.Block.{ssx, ssy}
+use Rattle.block.specs.Block.{ss-hor, ss-ver}
 use Rattle.record.specs.Recorded.{LumaSeen, ChromaSeen}
 use Rattle.screen.specs.Screen.{shown, InFrame, AtStart, Taken, UnitOf}
 
@@ -15,10 +15,10 @@ pub record Promises : Type 0 where
       → Exactly (shown D plane pass x y ≡ true) (InFrame D plane x y × (¬ AtStart pass x y))
   -- a unit of a block is visible, so recorded, exactly if it lies in the frame
   pub luma : (D : Frame) (b : Block) → Taken D 0 b 0 0 → (x y : ℕ) → UnitOf D 0 b x y → Exactly (LumaSeen b x y) (InFrame D 0 x y)
-  pub chroma : (D : Frame) (plane : ℕ) (b : Block) → Taken D plane b (ssx b) (ssy b) → b .chroma ≡ true → (x y : ℕ) → UnitOf D plane b x y
+  pub chroma : (D : Frame) (plane : ℕ) (b : Block) → Taken D plane b (ss-hor b) (ss-ver b) → b .chroma ≡ true → (x y : ℕ) → UnitOf D plane b x y
       → Exactly (ChromaSeen b x y) (InFrame D plane x y)
   -- so exactly if it is on the screen; at unit 0 across the pass it may be visible, and no edge is filtered there
   pub luma-screen : (D : Frame) (b : Block) → Taken D 0 b 0 0 → (pass x y : ℕ) → UnitOf D 0 b x y → ¬ AtStart pass x y
       → Exactly (LumaSeen b x y) (shown D 0 pass x y ≡ true)
-  pub chroma-screen : (D : Frame) (plane : ℕ) (b : Block) → Taken D plane b (ssx b) (ssy b) → b .chroma ≡ true → (pass x y : ℕ)
+  pub chroma-screen : (D : Frame) (plane : ℕ) (b : Block) → Taken D plane b (ss-hor b) (ss-ver b) → b .chroma ≡ true → (pass x y : ℕ)
       → UnitOf D plane b x y → ¬ AtStart pass x y → Exactly (ChromaSeen b x y) (shown D plane pass x y ≡ true)

@@ -3,7 +3,7 @@
 --   unitsIn ss side           the units of a side of the frame: w4 or h4, in chroma rounded up
 --   InFrame D plane x y       the unit lies in the frame
 --   AtStart pass x y          it is unit 0 across the pass
---   Taken D plane b hor ver   the block b is taken in the frame D, whose plane has these ss
+--   Taken D plane b ss-hor ss-ver   the block b is taken in the frame D, whose plane has these ss
 --   UnitOf D plane b x y      the unit is one of the block's, uncut
 use mathlib.Core.Bool.{Bool}
 use mathlib.Core.Path.{_≡_}
@@ -11,7 +11,7 @@ use Prim.Native.Nat.{ℕ, _+_, _*_, _^_, _≤_, _<_}
 use Rattle.standard.specs.Edge.{Frame, onScreen}
 use Rattle.units.specs.Units.{unitsOf, chromaUnit, chromaUnits}
 use Rattle.block.specs.declared.Block.{Block}
-use Rattle.block.specs.Block.{wide, high}
+use Rattle.block.specs.Block.{blockWidth, blockHeight}
 
 abbrev pub shown : Frame → ℕ → ℕ → ℕ → ℕ → Bool
 shown D plane pass x y = onScreen D plane pass (y * 2 ^ D .sy plane) (x * 2 ^ D .sx plane)
@@ -27,12 +27,12 @@ pub data AtStart (pass x y : ℕ) : Type 0 where
   of-columns : pass ≡ 0 → x ≡ 0 → AtStart pass x y
   of-rows : pass ≡ 1 → y ≡ 0 → AtStart pass x y
 
-pub record Taken (D : Frame) (plane : ℕ) (b : Block) (hor ver : ℕ) : Type 0 where
-  pub wide : D .FrameWidth ≡ b .width .0
-  pub high : D .FrameHeight ≡ b .height .0
-  pub right-ss : D .sx plane ≡ hor
-  pub down-ss : D .sy plane ≡ ver
+pub record Taken (D : Frame) (plane : ℕ) (b : Block) (ss-hor ss-ver : ℕ) : Type 0 where
+  pub width : D .FrameWidth ≡ b .width .0
+  pub height : D .FrameHeight ≡ b .height .0
+  pub right-ss : D .sx plane ≡ ss-hor
+  pub down-ss : D .sy plane ≡ ss-ver
 
 pub record UnitOf (D : Frame) (plane : ℕ) (b : Block) (x y : ℕ) : Type 0 where
-  pub across : (chromaUnit (D .sx plane) (b .x .0) ≤ x) × (x < chromaUnit (D .sx plane) (b .x .0) + chromaUnits (D .sx plane) (wide b))
-  pub down : (chromaUnit (D .sy plane) (b .y .0) ≤ y) × (y < chromaUnit (D .sy plane) (b .y .0) + chromaUnits (D .sy plane) (high b))
+  pub across : (chromaUnit (D .sx plane) (b .x .0) ≤ x) × (x < chromaUnit (D .sx plane) (b .x .0) + chromaUnits (D .sx plane) (blockWidth b))
+  pub down : (chromaUnit (D .sy plane) (b .y .0) ≤ y) × (y < chromaUnit (D .sy plane) (b .y .0) + chromaUnits (D .sy plane) (blockHeight b))

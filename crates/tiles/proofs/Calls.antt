@@ -8,9 +8,9 @@ use Rattle.drawn.specs.Calls.{atBlock, back, Call, Records}
 
 -- of what it is lent
 abbrev left : ℕ → Call → Lent → Lent
-left stride q m =
+left level-stride q m =
     record {
-      levels = chromaLevels (q .block) stride (q .values) (lumaLevels (q .block) stride (q .values) (m .levels));
+      levels = chromaLevels (q .block) level-stride (q .values) (lumaLevels (q .block) level-stride (q .values) (m .levels));
       masks = chromaMasks (q .block) (m .above-uv) (m .left-uv) (lumaMasks (q .block) (q .tx-masks) (m .above) (m .left) (m .masks));
       above = lumaAbove (q .block) (q .tx-masks) (m .above);
       left = lumaLeft (q .block) (q .tx-masks) (m .left);
@@ -19,12 +19,12 @@ left stride q m =
     }
 
 abbrev pub next : ℕ → Call → Lent → Lent
-next stride q m = back (q .block) m (left stride q (atBlock (q .block) m))
+next level-stride q m = back (q .block) m (left level-stride q (atBlock (q .block) m))
 
-pub records : (stride : ℕ) (q : Call) (m : Lent) → number (q .block) stride (atBlock (q .block) m) ≡ 0 → Records stride q m (next stride q m)
-records stride q m e =
+pub records : (level-stride : ℕ) (q : Call) (m : Lent) → number (q .block) level-stride (atBlock (q .block) m) ≡ 0 → Records level-stride q m (next level-stride q m)
+records level-stride q m e =
     record {
-      left-behind = left stride q (atBlock (q .block) m);
+      left-behind = left level-stride q (atBlock (q .block) m);
       answer = record { code = sym e; levels = refl; masks = refl; above = refl; left = refl; above-uv = refl; left-uv = refl };
       now-is = refl;
     }

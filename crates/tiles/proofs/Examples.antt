@@ -14,12 +14,11 @@ use Rattle.bits.specs.Mark.{isSet}
 use Rattle.bits.proofs.Bits.{hasBit-nil}
 use Rattle.standard.specs.Sizes.{Num_4x4_Blocks_Wide, Num_4x4_Blocks_High, Tx_Wide, Tx_High}
 use Rattle.standard.specs.Edge.{applyFilter, isTxEdge, isBlockEdge}
-use Rattle.plane.specs.Line.{Pass, columns, rows, Piece}
+use Rattle.plane.specs.Line.{Pass, columns, rows, Piece, other, passNo, passOf}
 use Rattle.units.specs.Sizes.{log2}
-use Rattle.edges.specs.Edges.{unitsOf, other, passNo, lumaGrid, chromaGrid, edgeBit}
-use Rattle.edge_at.specs.Bit.{passOf}
-use Rattle.mask_edges.proofs.Asks.{chroma-low}
-use Rattle.mask_edges.proofs.Tells.{luma-low}
+use Rattle.edges.specs.Edges.{unitsOf, lumaGrid, chromaGrid, edgeBit}
+use Rattle.mask_edges.proofs.BlockPasses.{chroma-low}
+use Rattle.mask_edges.proofs.CellTables.{luma-low}
 use Rattle.block.specs.Block.{bw4, bh4, cbw4, cbh4, Lent}
 use Rattle.correct.specs.Start.{across, first}
 use Rattle.agree.specs.Legal.{Legal, Shows}
@@ -40,7 +39,7 @@ use Rattle.tiles.proofs.Edges.{edges}
 differ : columns ≡ rows → ⊥
 differ e = let z = ap passNo e in omega arith
 
-module _ (a b h : ℕ) (past : 0 < a) (wide : a < b) where
+module _ (a b h : ℕ) (past : 0 < a) (blockWidth : a < b) where
   abbrev T : Tile
   T = record { x0 = 0; x1 = a; y0 = 0; y1 = h }
 
@@ -67,7 +66,7 @@ module _ (a b h : ℕ) (past : 0 < a) (wide : a < b) where
   either Q (List·Memᴰ·tail (List·Memᴰ·tail m)) P x y = absurd (all-at (λ (q : Tile). ⊥) [] tt m)
 
   -- a correction of the line a in the column pass
-  module _ (k : Fix) (luma : Bool) (pass : passOf (k .start .rows) ≡ columns) (at : across (k .start) luma ≡ a) where
+  module _ (k : Fix) (luma : Bool) (pass : passOf (k .start .rowwise) ≡ columns) (at : across (k .start) luma ≡ a) where
     never : (d : Pass) (p : Piece) (Q : Tile) → List·Memᴰ Q (tilesOf a b h) → In Q d p → ¬ ((p .0 ≡ turned d Q .x0) × (0 < p .0)) → Never luma d p (k ∷ [])
     never rows p Q m i n = ((λ f. differ (sym pass ∙ f .pass)), tt)
     never columns p Q m i n = (
@@ -196,7 +195,8 @@ luma-first =
         (drawn.promises .luma decoded (call 0 1 0) 20 clear between calls.first refl (luma-legal 0 1 0 refl) (luma-left clear) refl refl (omega arith) (omega arith))
         (run.done _)
 
-luma-second : (d : Pass) → InTile decoded 0 (lumaGrid 20 2) d (turned d (R 16 20 2 (omega arith) (omega arith))) (lumaSeen (call 16 4 3) (fresh between) ∷ []) (lumaState (fresh between)) (lumaState after) 2
+luma-second : (d : Pass) → InTile decoded 0 (lumaGrid 20 2) d (turned d (R 16 20 2 (omega arith) (omega arith))) (lumaSeen (call 16 4 3) (fresh between) ∷ [])
+    (lumaState (fresh between)) (lumaState after) 2
 unfolding bw4 bh4 Num_4x4_Blocks_Wide Num_4x4_Blocks_High
 luma-second =
     elim [
@@ -231,14 +231,19 @@ luma-tiles : InTiles decoded 0 (lumaGrid 20 2) 2 (tilesOf 16 20 2) (fixOf betwee
 luma-tiles =
     record {
       tallies = record {
-        proper = record { ssx-le = omega arith; ssy-le = omega arith; luma-x = λ _. refl; luma-y = λ _. refl };
+        proper = record { ss-hor-le = omega arith; ss-ver-le = omega arith; luma-x = λ _. refl; luma-y = λ _. refl };
         right-ss = refl;
         down-ss = refl;
-        wide = refl;
-        high = refl;
+        width = refl;
+        height = refl;
         low = λ n. luma-low n;
       };
-      parted = record { apart = ((apart 16 20 2 (omega arith) (omega arith), tt), (tt, tt)); every = elim [ columns ↦ every 16 20 2 (omega arith) (omega arith) columns | rows ↦ every 16 20 2 (omega arith) (omega arith) rows ] };
+      parted =
+          record {
+            apart = ((apart 16 20 2 (omega arith) (omega arith), tt), (tt, tt));
+            every =
+                elim [ columns ↦ every 16 20 2 (omega arith) (omega arith) columns | rows ↦ every 16 20 2 (omega arith) (omega arith) rows ];
+          };
       recorded = tile _ _ _ (lumaState clear) (lumaState between) _ luma-first (tile _ _ _ (lumaState (fresh between)) (lumaState after) _ luma-second (done _));
       clear = λ d p c _ _ _. no-bit (edgeBit (lumaGrid 20 2) d p c);
       corrected = calls.fixed;
@@ -261,7 +266,8 @@ chroma-first =
         (drawn.promises .chroma decoded 1 (call 0 1 0) 20 clear between calls.first refl (chroma-legal 0 1 0 refl) (chroma-left clear) refl refl (omega arith) (omega arith))
         (run.done _)
 
-chroma-second : (d : Pass) → InTile decoded 1 (chromaGrid 1 1 20 2) d (turned d (R 8 10 1 (omega arith) (omega arith))) (chromaSeen (call 16 4 3) (fresh between) ∷ []) (chromaState (fresh between)) (chromaState after) 1
+chroma-second : (d : Pass) → InTile decoded 1 (chromaGrid 1 1 20 2) d (turned d (R 8 10 1 (omega arith) (omega arith))) (chromaSeen (call 16 4 3) (fresh between) ∷ [])
+    (chromaState (fresh between)) (chromaState after) 1
 unfolding cbw4 cbh4 Num_4x4_Blocks_Wide Num_4x4_Blocks_High
 chroma-second =
     elim [
@@ -296,14 +302,19 @@ chroma-tiles : InTiles decoded 1 (chromaGrid 1 1 20 2) 1 (tilesOf 8 10 1) (fixOf
 chroma-tiles =
     record {
       tallies = record {
-        proper = record { ssx-le = omega arith; ssy-le = omega arith; luma-x = λ z. absurd (false≢true z); luma-y = λ z. absurd (false≢true z) };
+        proper = record { ss-hor-le = omega arith; ss-ver-le = omega arith; luma-x = λ z. absurd (false≢true z); luma-y = λ z. absurd (false≢true z) };
         right-ss = refl;
         down-ss = refl;
-        wide = refl;
-        high = refl;
+        width = refl;
+        height = refl;
         low = λ n. chroma-low n;
       };
-      parted = record { apart = ((apart 8 10 1 (omega arith) (omega arith), tt), (tt, tt)); every = elim [ columns ↦ every 8 10 1 (omega arith) (omega arith) columns | rows ↦ every 8 10 1 (omega arith) (omega arith) rows ] };
+      parted =
+          record {
+            apart = ((apart 8 10 1 (omega arith) (omega arith), tt), (tt, tt));
+            every =
+                elim [ columns ↦ every 8 10 1 (omega arith) (omega arith) columns | rows ↦ every 8 10 1 (omega arith) (omega arith) rows ];
+          };
       recorded = tile _ _ _ (chromaState clear) (chromaState between) _ chroma-first (tile _ _ _ (chromaState (fresh between)) (chromaState after) _ chroma-second (done _));
       clear = λ d p c _ _ _. no-bit (edgeBit (chromaGrid 1 1 20 2) d p c);
       corrected = calls.fixed;

@@ -12,18 +12,17 @@ use lib.ListN.{length, getD}
 use borrow.Author.Tests.{not-false}
 use Rattle.loops.specs.Run.{All}
 use Rattle.bits.specs.Mark.{isSet}
-use Rattle.plane.specs.Line.{Pass, columns, rows, Piece}
-use Rattle.edges.specs.Edges.{Grid, unitsOf, other, classes, edgeBit}
+use Rattle.plane.specs.Line.{Pass, columns, rows, Piece, other, passOf}
+use Rattle.edges.specs.Edges.{Grid, unitsOf, classes, edgeBit}
 use Rattle.edges.proofs.Bits.{edge-bit-inj, kinds-apart}
-use Rattle.edge_at.specs.Bit.{passOf}
 use Rattle.correct.specs.declared.Start.{Start}
 use Rattle.correct.specs.Start as start
 use Rattle.correct.specs.Start.{gridAt, begin, first, Inside}
 use Rattle.correct.specs.Answer.{CorrectAnswer}
 use Rattle.correct.specs.Promises.{CorrectedUnit, bitAt, Promised}
-use Rattle.correct.proofs.Places.{proper, shaped, inside-is}
-use Rattle.correct.proofs.Sounds.{across-in, end-in, all-passed}
-use Rattle.correct.proofs.Told as told
+use Rattle.correct.proofs.Starts.{proper, shaped, inside-is}
+use Rattle.correct.proofs.Corrected.{across-in, end-in, all-passed}
+use Rattle.correct.proofs.AnswerLaws as told
 use Rattle.drawn.proofs.Bits.{passes-apart}
 use Rattle.drawn.proofs.Corrects.{new-class}
 use Rattle.tiles.specs.Tiles.{Fix, Corrected, done, fix, Fixes, keptAt, Never, Once}
@@ -40,9 +39,9 @@ module _ (r : Start) (context context-uv m n : List ℕ) (A : CorrectAnswer r co
       inside-is r (shaped r (q .shape)) (not-false (start.inside r) (q .outside))
 
   -- two units of one plane with a bit in common
-  same-plane : (luma : Bool) (e d : Pass) (q p : Piece) (k c : ℕ) → passOf (r .rows) ≡ e → q .0 < unitsOf (gridAt r luma) e → q .1 < unitsOf (gridAt r luma) (other e)
+  same-plane : (luma : Bool) (e d : Pass) (q p : Piece) (k c : ℕ) → passOf (r .rowwise) ≡ e → q .0 < unitsOf (gridAt r luma) e → q .1 < unitsOf (gridAt r luma) (other e)
       → p .0 < unitsOf (gridAt r luma) d → p .1 < unitsOf (gridAt r luma) (other d) → k < classes (gridAt r luma) → c < classes (gridAt r luma)
-      → CorrectedUnit r luma q → (passOf (r .rows) ≡ d → CorrectedUnit r luma p → ⊥) → edgeBit (gridAt r luma) e q k ≡ edgeBit (gridAt r luma) d p c → ⊥
+      → CorrectedUnit r luma q → (passOf (r .rowwise) ≡ d → CorrectedUnit r luma p → ⊥) → edgeBit (gridAt r luma) e q k ≡ edgeBit (gridAt r luma) d p c → ⊥
   same-plane luma columns rows q p k c f qx qy px py hk hc u free z = passes-apart (gridAt r luma) (proper r luma) q p k c hk hc z
   same-plane luma rows columns q p k c f qx qy px py hk hc u free z = passes-apart (gridAt r luma) (proper r luma) p q c k hc hk (sym z)
   same-plane luma columns columns q p k c f qx qy px py hk hc u free z =
@@ -53,18 +52,18 @@ module _ (r : Start) (context context-uv m n : List ℕ) (A : CorrectAnswer r co
       free f (record { plane = u .plane; at = sym (i .0) ∙ u .at; from = omega (arith, i .1, u .from); to = omega (arith, i .1, u .to) })
 
   clash : (a b : Bool) (d : Pass) (q p : Piece) (k c : ℕ) → p .0 < unitsOf (gridAt r a) d → p .1 < unitsOf (gridAt r a) (other d) → c < classes (gridAt r a)
-      → k < classes (gridAt r b) → CorrectedUnit r b q → (passOf (r .rows) ≡ d → CorrectedUnit r a p → ⊥) → bitAt r b q k ≡ edgeBit (gridAt r a) d p c → ⊥
+      → k < classes (gridAt r b) → CorrectedUnit r b q → (passOf (r .rowwise) ≡ d → CorrectedUnit r a p → ⊥) → bitAt r b q k ≡ edgeBit (gridAt r a) d p c → ⊥
   clash true false d q p k c px py hc hk u free z =
-      kinds-apart (gridAt r true) (gridAt r false) (proper r true) (proper r false) refl refl d (passOf (r .rows)) p q c k hc hk (sym z)
+      kinds-apart (gridAt r true) (gridAt r false) (proper r true) (proper r false) refl refl d (passOf (r .rowwise)) p q c k hc hk (sym z)
   clash false true d q p k c px py hc hk u free z =
-      kinds-apart (gridAt r true) (gridAt r false) (proper r true) (proper r false) refl refl (passOf (r .rows)) d q p k c hk hc z
+      kinds-apart (gridAt r true) (gridAt r false) (proper r true) (proper r false) refl refl (passOf (r .rowwise)) d q p k c hk hc z
   clash true true d q p k c px py hc hk u free z =
-      same-plane true (passOf (r .rows)) d q p k c refl (omega (arith, u .at, across-in r true in-frame)) (omega (arith, u .to, end-in r true in-frame)) px py hk hc u free z
+      same-plane true (passOf (r .rowwise)) d q p k c refl (omega (arith, u .at, across-in r true in-frame)) (omega (arith, u .to, end-in r true in-frame)) px py hk hc u free z
   clash false false d q p k c px py hc hk u free z =
-      same-plane false (passOf (r .rows)) d q p k c refl (omega (arith, u .at, across-in r false in-frame)) (omega (arith, u .to, end-in r false in-frame)) px py hk hc u free z
+      same-plane false (passOf (r .rowwise)) d q p k c refl (omega (arith, u .at, across-in r false in-frame)) (omega (arith, u .to, end-in r false in-frame)) px py hk hc u free z
 
   stays : (luma : Bool) (d : Pass) (p : Piece) (c : ℕ) → p .0 < unitsOf (gridAt r luma) d → p .1 < unitsOf (gridAt r luma) (other d) → c < classes (gridAt r luma)
-      → (passOf (r .rows) ≡ d → 0 < begin r → CorrectedUnit r luma p → ⊥) → isSet n (edgeBit (gridAt r luma) d p c) ≡ isSet m (edgeBit (gridAt r luma) d p c)
+      → (passOf (r .rowwise) ≡ d → 0 < begin r → CorrectedUnit r luma p → ⊥) → isSet n (edgeBit (gridAt r luma) d p c) ≡ isSet m (edgeBit (gridAt r luma) d p c)
   stays luma d p c px py hc free =
       by-cases (decLt 0 (begin r))
       (λ b. answered .others (edgeBit (gridAt r luma) d p c) (λ l q k u hk z. clash luma l d q p k c px py hc hk u (λ e. free e b) z))
@@ -79,29 +78,29 @@ module _ (r : Start) (context context-uv m n : List ℕ) (A : CorrectAnswer r co
 
 module _ (G : Grid) (d : Pass) (p : Piece) (px : p .0 < unitsOf G d) (py : p .1 < unitsOf G (other d)) where
   abbrev Ours : Fix → Type 0
-  Ours k = gridAt (k .start) (G .isLuma) ≡ G
+  Ours k = gridAt (k .start) (G .luma) ≡ G
 
-  one-stays : (k : Fix) (m n : List ℕ) → CorrectAnswer (k .start) (k .context) (k .context-uv) 0 m n → Ours k → ¬ Fixes k (G .isLuma) d p
+  one-stays : (k : Fix) (m n : List ℕ) → CorrectAnswer (k .start) (k .context) (k .context-uv) 0 m n → Ours k → ¬ Fixes k (G .luma) d p
       → (c : ℕ) → c < classes G → isSet n (edgeBit G d p c) ≡ isSet m (edgeBit G d p c)
   one-stays k m n A e free c hc =
       subst (λ (H : Grid). p .0 < unitsOf H d → p .1 < unitsOf H (other d) → c < classes H → isSet n (edgeBit H d p c) ≡ isSet m (edgeBit H d p c)) e
-      (λ a b h. stays (k .start) (k .context) (k .context-uv) m n A (G .isLuma) d p c a b h (λ f past u. free (record { pass = f; past = past; unit = u })))
+      (λ a b h. stays (k .start) (k .context) (k .context-uv) m n A (G .luma) d p c a b h (λ f past u. free (record { pass = f; past = past; unit = u })))
       px py hc
 
-  one-fixed : (k : Fix) (m n : List ℕ) → CorrectAnswer (k .start) (k .context) (k .context-uv) 0 m n → Ours k → Fixes k (G .isLuma) d p
+  one-fixed : (k : Fix) (m n : List ℕ) → CorrectAnswer (k .start) (k .context) (k .context-uv) 0 m n → Ours k → Fixes k (G .luma) d p
       → (own : ℕ) → own < classes G → ((c : ℕ) → c < classes G → isSet m (edgeBit G d p c) ≡ eqb own c)
-      → (c : ℕ) → c < classes G → isSet n (edgeBit G d p c) ≡ eqb c (min own (keptAt k (G .isLuma) p))
+      → (c : ℕ) → c < classes G → isSet n (edgeBit G d p c) ≡ eqb c (min own (keptAt k (G .luma) p))
   one-fixed k m n A e f own =
       subst₂ (λ (H : Grid) (x : Pass). own < classes H → ((c : ℕ) → c < classes H → isSet m (edgeBit H x p c) ≡ eqb own c)
-      → (c : ℕ) → c < classes H → isSet n (edgeBit H x p c) ≡ eqb c (min own (keptAt k (G .isLuma) p))) e (f .pass)
-      (fixed (k .start) (k .context) (k .context-uv) m n A (G .isLuma) p (f .past) (f .unit) own)
+      → (c : ℕ) → c < classes H → isSet n (edgeBit H x p c) ≡ eqb c (min own (keptAt k (G .luma) p))) e (f .pass)
+      (fixed (k .start) (k .context) (k .context-uv) m n A (G .luma) p (f .past) (f .unit) own)
 
-  pub never-stays : (l : List Fix) (m o : List ℕ) → Corrected l m o → All Ours l → Never (G .isLuma) d p l
+  pub never-stays : (l : List Fix) (m o : List ℕ) → Corrected l m o → All Ours l → Never (G .luma) d p l
       → (c : ℕ) → c < classes G → isSet o (edgeBit G d p c) ≡ isSet m (edgeBit G d p c)
   never-stays l m o (done _) s n c hc = refl
   never-stays (k ∷ l) m o (fix _ _ _ x _ A r) s n c hc = never-stays l x o r (s .1) (n .1) c hc ∙ one-stays k m x A (s .0) (n .0) c hc
 
-  pub once-fixed : (l : List Fix) (m o : List ℕ) → Corrected l m o → All Ours l → (v : ℕ) → Once (G .isLuma) d p v l
+  pub once-fixed : (l : List Fix) (m o : List ℕ) → Corrected l m o → All Ours l → (v : ℕ) → Once (G .luma) d p v l
       → (own : ℕ) → own < classes G → ((c : ℕ) → c < classes G → isSet m (edgeBit G d p c) ≡ eqb own c)
       → (c : ℕ) → c < classes G → isSet o (edgeBit G d p c) ≡ eqb c (min own v)
   once-fixed l m o (done _) s v w own h one c hc = absurd w

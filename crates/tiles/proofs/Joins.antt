@@ -10,8 +10,8 @@ use Rattle.loops.specs.Run.{All}
 use Rattle.loops.proofs.Closed.{all-at}
 use Rattle.bits.specs.Mark.{isSet}
 use Rattle.standard.specs.Edge.{Frame}
-use Rattle.plane.specs.Line.{Pass, Piece}
-use Rattle.edges.specs.Edges.{Grid, unitsOf, other, classes, edgeBit}
+use Rattle.plane.specs.Line.{Pass, Piece, other}
+use Rattle.edges.specs.Edges.{Grid, unitsOf, classes, edgeBit}
 use Rattle.mask_edges.specs.Recording.{isEdge}
 use Rattle.covering.specs.Front.{Part, Covers, Tile, Within}
 use Rattle.covering.specs.Standard.{appliesAt}

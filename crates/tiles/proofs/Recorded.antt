@@ -32,7 +32,8 @@ unfolding number anyBelow Num_4x4_Blocks_Wide Num_4x4_Blocks_High Tx_Wide Tx_Hig
 first = records 20 (call 0 1 0) clear refl
 
 pub second : Records 20 (call 16 4 3) (fresh between) after
-unfolding number anyBelow Num_4x4_Blocks_Wide Num_4x4_Blocks_High Tx_Wide Tx_High bw4 bh4 cbw4 cbh4 fillLevels fillRow inRecord gridMasks gridPass blockEdge stepEdges marks mark stores log2 levelAt edgeBit
+unfolding number anyBelow Num_4x4_Blocks_Wide Num_4x4_Blocks_High Tx_Wide Tx_High bw4 bh4 cbw4 cbh4 fillLevels fillRow inRecord gridMasks gridPass blockEdge stepEdges
+    marks mark stores log2 levelAt edgeBit
 second = records 20 (call 16 4 3) (fresh between) refl
 
 pub fixed : Corrected (fixOf between ∷ []) (after .masks) masks

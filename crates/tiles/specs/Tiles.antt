@@ -23,9 +23,8 @@ use lib.ListN.{getD}
 use Rattle.loops.specs.Run.{All}
 use Rattle.bits.specs.Mark.{isSet}
 use Rattle.standard.specs.Edge.{Frame}
-use Rattle.plane.specs.Line.{Pass, columns, rows, Piece}
-use Rattle.edges.specs.Edges.{Grid, unitsOf, other, classes, edgeBit}
-use Rattle.edge_at.specs.Bit.{passOf}
+use Rattle.plane.specs.Line.{Pass, columns, rows, Piece, other, passOf}
+use Rattle.edges.specs.Edges.{Grid, unitsOf, classes, edgeBit}
 use Rattle.correct.specs.declared.Start.{Start}
 use Rattle.correct.specs.Start.{gridAt, begin, first}
 use Rattle.correct.specs.Answer.{CorrectAnswer}
@@ -71,7 +70,7 @@ pub data Corrected : List Fix → List ℕ → List ℕ → Type 0 where
   fix : (k : Fix) (l : List Fix) (m n o : List ℕ) → CorrectAnswer (k .start) (k .context) (k .context-uv) 0 m n → Corrected l n o → Corrected (k ∷ l) m o
 
 pub record Fixes (k : Fix) (luma : Bool) (d : Pass) (p : Piece) : Type 0 where
-  pub pass : passOf (k .start .rows) ≡ d
+  pub pass : passOf (k .start .rowwise) ≡ d
   pub past : 0 < begin (k .start)
   pub unit : CorrectedUnit (k .start) luma p
 
@@ -86,11 +85,11 @@ Once luma d p v [] = ⊥
 Once luma d p v (k ∷ l) = (Fixes k luma d p × (keptAt k luma p ≡ v) × Never luma d p l) ⊎ ((¬ (Fixes k luma d p)) × Once luma d p v l)
 
 pub record AtStarts (D : Frame) (plane : ℕ) (G : Grid) (ts : List Tile) (l : List Fix) : Type 0 where
-  pub frame : All (λ k. gridAt (k .start) (G .isLuma) ≡ G) l
+  pub frame : All (λ k. gridAt (k .start) (G .luma) ≡ G) l
   pub starts : (d : Pass) (p : Piece) → p .0 < unitsOf G d → p .1 < unitsOf G (other d) → (T : Tile) → List·Memᴰ T ts → In T d p
-      → p .0 ≡ turned d T .x0 → 0 < p .0 → Once (G .isLuma) d p (classIn D plane d (p .0 - 1) (p .1)) l
+      → p .0 ≡ turned d T .x0 → 0 < p .0 → Once (G .luma) d p (classIn D plane d (p .0 - 1) (p .1)) l
   pub rest : (d : Pass) (p : Piece) → p .0 < unitsOf G d → p .1 < unitsOf G (other d) → (T : Tile) → List·Memᴰ T ts → In T d p
-      → ¬ ((p .0 ≡ turned d T .x0) × (0 < p .0)) → Never (G .isLuma) d p l
+      → ¬ ((p .0 ≡ turned d T .x0) × (0 < p .0)) → Never (G .luma) d p l
 
 pub record InTiles (D : Frame) (plane : ℕ) (G : Grid) (start : ℕ) (ts : List Tile) (l : List Fix) (m n o : List ℕ) : Type 0 where
   pub tallies : Tallies D plane G

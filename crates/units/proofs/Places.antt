@@ -2,7 +2,7 @@
 use mathlib.Core.Path.{_≡_, sym, ap₂, _∙_}
 use mathlib.Core.Bool.{Bool, true, false, cond}
 use Prim.Native.Nat.{ℕ, _+_, _*_, _/_, _%_, _^_, _<_, _≤_}
-use native.Mathlib.Nat.{div-add-mod', le-div-iff-mul-le, suc-mul, mul-comm}
+use native.Mathlib.Nat.{div-add-mod', le-div-iff-mul-le, suc-mul, mul-comm, mul-le-mul-left}
 use native.Mathlib.Omega.{arith}
 use lib.Dec.{eqb}
 use Rattle.loops.specs.Exactly.{Exactly}
@@ -29,6 +29,13 @@ side-le = by-ss (λ ss. 32 / 2 ^ ss ≤ 32) (omega arith) (omega arith)
 pub chroma-units-le : (n ss : ℕ) → ss ≤ 1 → chromaUnits ss n ≤ n
 chroma-units-le n = by-ss (λ ss. chromaUnits ss n ≤ n) (omega arith) (omega arith)
 
+pub unit-le : (ss n : ℕ) → ss ≤ 1 → chromaUnit ss n ≤ n
+unit-le ss n h = by-ss (λ t. chromaUnit t n ≤ n) (omega arith) (omega arith) ss h
+
+-- a superblock row of the frame, counted in units of its plane
+pub rows-le : (ss k sb4 m sb : ℕ) → ss ≤ 1 → k * sb4 < m → sb ≡ chromaUnit ss sb4 → k * sb < m
+rows-le ss k sb4 m sb h l e = rw e (omega (arith, mul-le-mul-left k (unit-le ss sb4 h)))
+
 pub chroma-unit-in : (u n ss : ℕ) → u < n → ss ≤ 1 → chromaUnit ss u < chromaUnits ss n
 chroma-unit-in u n ss h = by-ss (λ ss. chromaUnit ss u < chromaUnits ss n) (omega arith) (omega arith) ss
 
@@ -53,9 +60,9 @@ superblock-in k n sb4 p =
 pub stored-records : (side ss : ℕ) → ss ≤ 1 → stored side ss ≡ 4 * (records (unitsOf side) * (32 / 2 ^ ss))
 stored-records side = by-ss (λ ss. stored side ss ≡ 4 * (records (unitsOf side) * (32 / 2 ^ ss))) (omega arith) (omega arith)
 
-pub level-in : (len stride w4 h4 x y kind : ℕ) → w4 ≤ stride → 4 * stride * h4 ≤ len → x < w4 → y < h4 → kind < 4 → levelAt stride x y kind < len
+pub level-in : (len stride w4 h4 x y area : ℕ) → w4 ≤ stride → 4 * stride * h4 ≤ len → x < w4 → y < h4 → area < 4 → levelAt stride x y area < len
 unfolding levelAt
-level-in len stride w4 h4 x y kind a b p q r = omega (arith, row-in y h4 stride q, mul-comm h4 stride)
+level-in len stride w4 h4 x y area a b p q r = omega (arith, row-in y h4 stride q, mul-comm h4 stride)
 
 -- ---- bits of a record
 

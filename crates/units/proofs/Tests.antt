@@ -32,8 +32,8 @@ reflects-superblock size = reflects-or (reflects-eqb size 64) (reflects-eqb size
 pub reflects-levels : (len stride w4 h4 : ℕ) → Reflects (levelsOk len stride w4 h4) ((w4 ≤ stride) × (4 * stride * h4 ≤ len))
 reflects-levels len stride w4 h4 = reflects-and (reflects-leb w4 stride) (reflects-leb (4 * stride * h4) len)
 
-pub reflects-plane : (len stride wide high : ℕ) → Reflects (planeOk len stride wide high) ((wide ≤ stride) × (stride * high ≤ len))
-reflects-plane len stride wide high = reflects-and (reflects-leb wide stride) (reflects-leb (stride * high) len)
+pub reflects-plane : (len stride width height : ℕ) → Reflects (planeOk len stride width height) ((width ≤ stride) × (stride * height ≤ len))
+reflects-plane len stride width height = reflects-and (reflects-leb width stride) (reflects-leb (stride * height) len)
 
 pub reflects-masks : (len w4 h4 : ℕ) → Reflects (masksOk len w4 h4) (640 * frameRecords w4 h4 ≤ len)
 reflects-masks len w4 h4 = reflects-leb (640 * frameRecords w4 h4) len

@@ -1,7 +1,7 @@
 -- Lent memory.
---   levelAt stride x y kind          the place of a level byte: kind 0 luma columns, 1 luma rows, 2 U, 3 V, at the unit (x, y) of its plane
---   levelsOk len stride w4 h4        a stride of w4 units at least, and 4 * stride * h4 bytes
---   planeOk len stride wide high     a stride of the stored width at least, and stride * stored height samples
+--   levelAt level-stride x y area    the place of a level byte: area 0 luma columns, 1 luma rows, 2 U, 3 V, at the unit (x, y) of its plane
+--   levelsOk len level-stride w4 h4  a stride of w4 units at least, and 4 * stride * h4 bytes
+--   planeOk len stride width height     a stride of the stored width at least, and stride * stored height samples
 --   masksOk len w4 h4                640 words for each record
 --   lumaWord, chromaWord             the place of a word of masks in its record
 --   halfUnits ss                     the units that a half holds, ss being that of the direction along the pass
@@ -13,13 +13,13 @@ use lib.Dec.{leb}
 use Rattle.units.specs.Frame.{frameRecords}
 
 unfoldable pub levelAt : ℕ → ℕ → ℕ → ℕ → ℕ
-levelAt stride x y kind = 4 * (y * stride + x) + kind
+levelAt level-stride x y area = 4 * (y * level-stride + x) + area
 
 abbrev pub levelsOk : ℕ → ℕ → ℕ → ℕ → Bool
-levelsOk len stride w4 h4 = leb w4 stride && leb (4 * stride * h4) len
+levelsOk len level-stride w4 h4 = leb w4 level-stride && leb (4 * level-stride * h4) len
 
 abbrev pub planeOk : ℕ → ℕ → ℕ → ℕ → Bool
-planeOk len stride wide high = leb wide stride && leb (stride * high) len
+planeOk len stride width height = leb width stride && leb (stride * height) len
 
 abbrev pub masksOk : ℕ → ℕ → ℕ → Bool
 masksOk len w4 h4 = leb (640 * frameRecords w4 h4) len

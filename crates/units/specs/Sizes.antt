@@ -29,7 +29,7 @@ chromaClass n = cond (ltb 1 n) 1 0
 pub record Side (n most : ℕ) : Type 0 where
   pub power : 2 ^ log2 n ≡ n
   pub low : 1 ≤ n
-  pub high : n ≤ most
+  pub at-most : n ≤ most
 
 pub record Ratio (w h : ℕ) : Type 0 where
   pub flat : w ≤ 4 * h
@@ -52,8 +52,8 @@ txOrder =
     flatMap square (1 ∷ 2 ∷ 4 ∷ 8 ∷ 16 ∷ []) ++ flatMap (oblongs 2) (2 ∷ 4 ∷ 8 ∷ 16 ∷ []) ++ flatMap (oblongs 4) (4 ∷ 8 ∷ 16 ∷ [])
 
 pub record BlockRule (b : ℕ) : Type 0 where
-  pub wide : Side (Num_4x4_Blocks_Wide b) 32
-  pub high : Side (Num_4x4_Blocks_High b) 32
+  pub width : Side (Num_4x4_Blocks_Wide b) 32
+  pub height : Side (Num_4x4_Blocks_High b) 32
   pub ratio : Ratio (Num_4x4_Blocks_Wide b) (Num_4x4_Blocks_High b)
   pub order : getD blockOrder b (0, 0) ≡ (Num_4x4_Blocks_Wide b, Num_4x4_Blocks_High b)
   pub tx : Max_Tx_Size_Rect b < 19
@@ -63,8 +63,8 @@ pub record BlockRule (b : ℕ) : Type 0 where
 -- the transform that t splits into: a square's sides are halved, and so is the longer side of an oblong, whose parts never lie the other way; 4x4 stays
 pub record SplitRule (t : ℕ) : Type 0 where
   pub code : Split_Tx_Size t < 19
-  pub wide : Tx_High t ≤ Tx_Wide t → 0 < t → 2 * Tx_Wide (Split_Tx_Size t) ≡ Tx_Wide t
-  pub high : Tx_Wide t ≤ Tx_High t → 0 < t → 2 * Tx_High (Split_Tx_Size t) ≡ Tx_High t
+  pub width : Tx_High t ≤ Tx_Wide t → 0 < t → 2 * Tx_Wide (Split_Tx_Size t) ≡ Tx_Wide t
+  pub height : Tx_Wide t ≤ Tx_High t → 0 < t → 2 * Tx_High (Split_Tx_Size t) ≡ Tx_High t
   pub wide-stays : Tx_Wide t < Tx_High t → Tx_Wide (Split_Tx_Size t) ≡ Tx_Wide t
   pub high-stays : Tx_High t < Tx_Wide t → Tx_High (Split_Tx_Size t) ≡ Tx_High t
   pub flat : Tx_High (Split_Tx_Size t) < Tx_Wide (Split_Tx_Size t) → Tx_High t < Tx_Wide t
@@ -72,8 +72,8 @@ pub record SplitRule (t : ℕ) : Type 0 where
   pub least : t ≡ 0 → Split_Tx_Size t ≡ 0
 
 pub record TxRule (t : ℕ) : Type 0 where
-  pub wide : Side (Tx_Wide t) 16
-  pub high : Side (Tx_High t) 16
+  pub width : Side (Tx_Wide t) 16
+  pub height : Side (Tx_High t) 16
   pub ratio : Ratio (Tx_Wide t) (Tx_High t)
   pub order : getD txOrder t (0, 0) ≡ (Tx_Wide t, Tx_High t)
   pub split : SplitRule t

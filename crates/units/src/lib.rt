@@ -2,6 +2,7 @@
 // frame, the places of lent memory, block and transform sizes; and the numbers that a call returns. ss is ss_hor or ss_ver.
 pub mod frame;
 pub mod layout;
+pub mod masks;
 pub mod memory;
 pub mod numbers;
 pub mod sizes;

@@ -9,26 +9,26 @@ ghost use Prim.Native.Nat.{_*_, _^_, _<_, _≤_};
 ghost use lib.Dec.{leb};
 ghost use Rattle.units.specs.Memory.{levelAt, levelsOk, planeOk, masksOk, lumaWord, chromaWord, halfUnits, lumaBit, chromaBit};
 
-// Lines of `stride` cells, at least `wide` of them; by a quotient, since the product may be too large.
-fn lines_ok(len: usize, stride: usize, wide: usize, lines: usize) -> bool
+// Lines of `stride` cells, at least `width` of them; by a quotient, since the product may be too large.
+fn lines_ok(len: usize, stride: usize, width: usize, lines: usize) -> bool
     requires { ⌜ 0 < lines ⌝ }
-    ensures { λ r. ⌜ r ≡ (leb wide stride && leb (stride * lines) len) ⌝ }
+    ensures { λ r. ⌜ r ≡ (leb width stride && leb (stride * lines) len) ⌝ }
 {
-    (wide <= stride) & (stride <= len / lines)
+    (width <= stride) & (stride <= len / lines)
 }
 
-pub fn levels_ok(len: usize, stride: usize, w4: LumaUnit, h4: LumaUnit) -> bool
+pub fn levels_ok(len: usize, level_stride: usize, w4: LumaUnit, h4: LumaUnit) -> bool
     requires { ⌜ (0 < h4 .0) × (h4 .0 ≤ 4096) ⌝ }
-    ensures { λ r. ⌜ r ≡ levelsOk len stride (w4 .0) (h4 .0) ⌝ }
+    ensures { λ r. ⌜ r ≡ levelsOk len «level_stride» (w4 .0) (h4 .0) ⌝ }
 {
-    lines_ok(len, stride, w4.0, 4 * h4.0)
+    lines_ok(len, level_stride, w4.0, 4 * h4.0)
 }
 
-pub fn plane_ok(len: usize, stride: usize, wide: Sample, high: Sample) -> bool
-    requires { ⌜ 0 < high .0 ⌝ }
-    ensures { λ r. ⌜ r ≡ planeOk len stride (wide .0) (high .0) ⌝ }
+pub fn plane_ok(len: usize, stride: usize, width: Sample, height: Sample) -> bool
+    requires { ⌜ 0 < height .0 ⌝ }
+    ensures { λ r. ⌜ r ≡ planeOk len stride (width .0) (height .0) ⌝ }
 {
-    lines_ok(len, stride, wide.0, high.0)
+    lines_ok(len, stride, width.0, height.0)
 }
 
 pub fn masks_ok(len: usize, w4: LumaUnit, h4: LumaUnit) -> bool
@@ -38,27 +38,27 @@ pub fn masks_ok(len: usize, w4: LumaUnit, h4: LumaUnit) -> bool
     640 * (records_along(w4) * records_along(h4)) <= len
 }
 
-fn level_at(stride: usize, x: usize, y: usize, kind: usize) -> usize
-    requires { ⌜ levelAt stride x y kind < 2 ^ 64 ⌝ }
-    ensures { λ r. ⌜ r ≡ levelAt stride x y kind ⌝ }
+fn level_at(level_stride: usize, x: usize, y: usize, area: usize) -> usize
+    requires { ⌜ levelAt «level_stride» x y area < 2 ^ 64 ⌝ }
+    ensures { λ r. ⌜ r ≡ levelAt «level_stride» x y area ⌝ }
 {
-    4 * (y * stride + x) + kind
+    4 * (y * level_stride + x) + area
 }
 
-// kind is the pass.
-pub fn luma_level_at(stride: usize, x: LumaUnit, y: LumaUnit, kind: usize) -> usize
-    requires { ⌜ (kind < 2) × (levelAt stride (x .0) (y .0) kind < 2 ^ 64) ⌝ }
-    ensures { λ r. ⌜ r ≡ levelAt stride (x .0) (y .0) kind ⌝ }
+// area is the pass.
+pub fn luma_level_at(level_stride: usize, x: LumaUnit, y: LumaUnit, area: usize) -> usize
+    requires { ⌜ (area < 2) × (levelAt «level_stride» (x .0) (y .0) area < 2 ^ 64) ⌝ }
+    ensures { λ r. ⌜ r ≡ levelAt «level_stride» (x .0) (y .0) area ⌝ }
 {
-    level_at(stride, x.0, y.0, kind)
+    level_at(level_stride, x.0, y.0, area)
 }
 
-// kind is 2 for U and 3 for V.
-pub fn chroma_level_at(stride: usize, x: ChromaUnit, y: ChromaUnit, kind: usize) -> usize
-    requires { ⌜ (2 ≤ kind) × (kind < 4) × (levelAt stride (x .0) (y .0) kind < 2 ^ 64) ⌝ }
-    ensures { λ r. ⌜ r ≡ levelAt stride (x .0) (y .0) kind ⌝ }
+// area is 2 for U and 3 for V.
+pub fn chroma_level_at(level_stride: usize, x: ChromaUnit, y: ChromaUnit, area: usize) -> usize
+    requires { ⌜ (2 ≤ area) × (area < 4) × (levelAt «level_stride» (x .0) (y .0) area < 2 ^ 64) ⌝ }
+    ensures { λ r. ⌜ r ≡ levelAt «level_stride» (x .0) (y .0) area ⌝ }
 {
-    level_at(stride, x.0, y.0, kind)
+    level_at(level_stride, x.0, y.0, area)
 }
 
 pub fn luma_word(pass: usize, unit: LumaUnit, class: u8, half: usize) -> usize

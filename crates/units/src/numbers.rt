@@ -38,3 +38,6 @@ pub const GAP: u32 = 11;
 
 // a mask bit outside the frame, or outside the bits its half may hold
 pub const MASK_BIT: u32 = 12;
+
+// No number: a line of a script has no such form, and `list` prints the word `form` for it. No request gives this value out.
+pub const FORM: u32 = 1000;

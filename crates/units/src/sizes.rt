@@ -110,14 +110,14 @@ pub fn max_tx_rect(code: usize) -> usize
 }
 
 // A transform's sides are in units of its own plane.
-fn wide(code: usize) -> usize
+fn tx_width(code: usize) -> usize
     requires { ⌜ code < 19 ⌝ }
     ensures { λ r. ⌜ r ≡ Tx_Wide code ⌝ }
 {
     TX_WIDE[code] as usize
 }
 
-fn high(code: usize) -> usize
+fn tx_height(code: usize) -> usize
     requires { ⌜ code < 19 ⌝ }
     ensures { λ r. ⌜ r ≡ Tx_High code ⌝ }
 {
@@ -128,28 +128,28 @@ pub fn luma_tx_wide(code: usize) -> LumaUnit
     requires { ⌜ code < 19 ⌝ }
     ensures { λ r. ⌜ r .0 ≡ Tx_Wide code ⌝ }
 {
-    LumaUnit(wide(code))
+    LumaUnit(tx_width(code))
 }
 
 pub fn luma_tx_high(code: usize) -> LumaUnit
     requires { ⌜ code < 19 ⌝ }
     ensures { λ r. ⌜ r .0 ≡ Tx_High code ⌝ }
 {
-    LumaUnit(high(code))
+    LumaUnit(tx_height(code))
 }
 
 pub fn chroma_tx_wide(code: usize) -> ChromaUnit
     requires { ⌜ code < 19 ⌝ }
     ensures { λ r. ⌜ r .0 ≡ Tx_Wide code ⌝ }
 {
-    ChromaUnit(wide(code))
+    ChromaUnit(tx_width(code))
 }
 
 pub fn chroma_tx_high(code: usize) -> ChromaUnit
     requires { ⌜ code < 19 ⌝ }
     ensures { λ r. ⌜ r .0 ≡ Tx_High code ⌝ }
 {
-    ChromaUnit(high(code))
+    ChromaUnit(tx_height(code))
 }
 
 // The Rust's `sub`.

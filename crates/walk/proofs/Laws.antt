@@ -17,25 +17,25 @@ use Rattle.plane.proofs.Lines.{put-keeps}
 use Rattle.line.specs.Rule.{rule}
 use Rattle.walk.specs.Walk.{thresholds, Units, setIn, lenAt, levelAt, indexAt, visit, visitAt, walked}
 use Rattle.walk.specs.Promises.{Promises}
-use Rattle.walk.proofs.Leaves.{by-fields}
+use Rattle.walk.proofs.WidthsThresholds.{by-fields}
 use Rattle.walk.proofs.Places.{visits-run, only, every, rises}
 use Rattle.walk.proofs.Ranges.{visits-below}
 
-line-keeps : (st : ℕ) (r : Rule) (q : ℕ) (s : List ℕ) → length (lineAt st r q s) ≡ length s
+line-keeps : (sample-step : ℕ) (r : Rule) (q : ℕ) (s : List ℕ) → length (lineAt sample-step r q s) ≡ length s
 unfolding lineAt changed
-line-keeps st r q s = put-keeps st _ _ s
+line-keeps sample-step r q s = put-keeps sample-step _ _ s
 
-piece-keeps : (sa st : ℕ) (r : Rule) (q : ℕ) (s : List ℕ) → length (pieceAt sa st r q s) ≡ length s
+piece-keeps : (line-step sample-step : ℕ) (r : Rule) (q : ℕ) (s : List ℕ) → length (pieceAt line-step sample-step r q s) ≡ length s
 unfolding pieceAt
-piece-keeps sa st r q s = upTo-part length (λ k. lineAt st r (q + k * sa)) (λ k n. n) (λ k. line-keeps st r (q + k * sa)) 4 s
+piece-keeps line-step sample-step r q s = upTo-part length (λ k. lineAt sample-step r (q + k * line-step)) (λ k n. n) (λ k. line-keeps sample-step r (q + k * line-step)) 4 s
 
-visit-keeps : (depth : ℕ) (e i : List ℕ) (sa st len lvl q : ℕ) (s : List ℕ) → length (visit depth e i sa st len lvl q s) ≡ length s
+visit-keeps : (depth : ℕ) (e i : List ℕ) (line-step sample-step len lvl q : ℕ) (s : List ℕ) → length (visit depth e i line-step sample-step len lvl q s) ≡ length s
 unfolding visit
-visit-keeps depth e i sa st len lvl q s = go (eqb lvl 0)
+visit-keeps depth e i line-step sample-step len lvl q s = go (eqb lvl 0)
   where
-    go : (b : Bool) → length (cond b s (pieceAt sa st (rule len (thresholds depth e i lvl)) q s)) ≡ length s
+    go : (b : Bool) → length (cond b s (pieceAt line-step sample-step (rule len (thresholds depth e i lvl)) q s)) ≡ length s
     go true = refl
-    go false = piece-keeps sa st (rule len (thresholds depth e i lvl)) q s
+    go false = piece-keeps line-step sample-step (rule len (thresholds depth e i lvl)) q s
 
 pub walked-keeps : (depth : ℕ) (e i : List ℕ) (u : Units) (s : List ℕ) → length (walked depth e i u s) ≡ length s
 unfolding walked visits
@@ -43,7 +43,7 @@ walked-keeps depth e i u s =
     upTo-part length (λ k t. cond (hasBit (setIn u) k) (visitAt depth e i u k t) t) (λ k n. n) (λ k t. go k t (hasBit (setIn u) k)) 32 s
   where
     go : (k : ℕ) (t : List ℕ) (b : Bool) → length (cond b (visitAt depth e i u k t) t) ≡ length t
-    go k t true = visit-keeps depth e i (u .sa) (u .st) (lenAt u k) (levelAt u k) (indexAt u k) t
+    go k t true = visit-keeps depth e i (u .line-step) (u .sample-step) (lenAt u k) (levelAt u k) (indexAt u k) t
     go k t false = refl
 
 pub promises : Promises

@@ -1,4 +1,4 @@
-pub mod Leaves
+pub mod WidthsThresholds
 pub mod Visits
 pub mod Ranges
 pub mod Moves

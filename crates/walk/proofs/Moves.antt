@@ -23,7 +23,7 @@ use Rattle.piece.specs.Samples.{PieceUnder}
 use Rattle.view.specs.Level.{levelUsed}
 use Rattle.walk.specs.Walk.{highest, lenOf, Units, setIn, lenAt, levelAt, indexAt, visit, visitAt, walked}
 use Rattle.walk.specs.Ready.{Ready, Walkable, InRange}
-use Rattle.walk.proofs.Leaves.{width}
+use Rattle.walk.proofs.WidthsThresholds.{width}
 use Rattle.walk.proofs.Ranges.{next-below}
 
 pub record Moved (depth : ℕ) (e i : List ℕ) (u : Units) (s₀ s : List ℕ) (xy p lvl : ℕ) : Type 0 where
@@ -64,8 +64,8 @@ module _ {depth : ℕ} {e i : List ℕ} {u : Units} {s₀ s : List ℕ} {xy p lv
 
   -- and its sums fit
   pub record Room : Type 0 where
-    pub step : 4 * u .sa < 2 ^ 64
-    pub index : p + 4 * u .sa < 2 ^ 64
+    pub step : 4 * u .line-step < 2 ^ 64
+    pub index : p + 4 * u .line-step < 2 ^ 64
     pub level : lvl + u .along < 2 ^ 64
 
   pub masks-fit : u .m₀ < 2 ^ 32 → u .m₁ < 2 ^ 32 → u .m₂ < 2 ^ 32 → setIn u < 2 ^ 32
@@ -93,7 +93,7 @@ module _ {depth : ℕ} {e i : List ℕ} {u : Units} {s₀ s : List ℕ} {xy p lv
     pub room : Walkable u (length s₀) → length s₀ < 2 ^ 63 → length (u .levels) < 2 ^ 63 → Room
     room ok a b =
         let g = ok .ready (t .n) (t .is) in
-        let x = mul-le-mul-right (4 * u .sa) (t .ahead) in
+        let x = mul-le-mul-right (4 * u .line-step) (t .ahead) in
         let y = mul-le-mul-right (u .along) (t .ahead) in
         record {
           step = omega (arith, g .to);
@@ -109,20 +109,20 @@ module _ {depth : ℕ} {e i : List ℕ} {u : Units} {s₀ s : List ℕ} {xy p lv
 
     -- one place on
     next : (s′ : List ℕ) → length s′ ≡ length s₀ → s′ ≡ visits (v .k + 1) (setIn u) (visitAt depth e i u) s₀
-        → Moved depth e i u s₀ s′ ((xy * 2 ^ 1) % 2 ^ 32) (p + 4 * u .sa) (lvl + u .along)
+        → Moved depth e i u s₀ s′ ((xy * 2 ^ 1) % 2 ^ 32) (p + 4 * u .line-step) (lvl + u .along)
     next s′ n es =
         record {
           k = v .k + 1;
           few = omega (arith, t .few);
           bit = walk-next (v .k) xy (v .bit);
-          index = omega (arith, v .index, add-mul (v .k) 1 (4 * u .sa));
+          index = omega (arith, v .index, add-mul (v .k) 1 (4 * u .line-step));
           level = omega (arith, v .level, add-mul (v .k) 1 (u .along));
           size = n;
           done = es;
         }
 
     pub on-clear : (s′ : List ℕ) → bitAnd (setIn u) xy ≡ 0 → s′ ≡ s
-        → Moved depth e i u s₀ s′ ((xy * 2 ^ 1) % 2 ^ 32) (p + 4 * u .sa) (lvl + u .along)
+        → Moved depth e i u s₀ s′ ((xy * 2 ^ 1) % 2 ^ 32) (p + 4 * u .line-step) (lvl + u .along)
     on-clear s′ z es =
         next s′ (ap length es ∙ v .size)
         (es ∙ v .done ∙ sym (visits-clear _ _ _ (v .k) (word-clear (v .k) xy (t .few) (v .bit) (setIn u) z)))
@@ -136,18 +136,18 @@ module _ {depth : ℕ} {e i : List ℕ} {u : Units} {s₀ s : List ℕ} {xy p lv
 
       module _ (wd l : ℕ) (ew : wd ≡ lenAt u (v .k)) (el : l ≡ levelAt u (v .k)) where
         pub asked : Walkable u (length s₀)
-            → Width wd × (l < 64) × (reads wd * u .st ≤ p) × (p + 3 * u .sa + (reads wd - 1) * u .st < length s)
+            → Width wd × (l < 64) × (reads wd * u .sample-step ≤ p) × (p + 3 * u .line-step + (reads wd - 1) * u .sample-step < length s)
         asked ok =
             let g = ok .ready (v .k) is-set in
             rw (ew, el, v .index, v .size) (width (u .uv) (highest (u .m₁) (u .m₂) (v .k)), low _ _ (g .level) (g .before), g .from, g .to)
 
         pub asked-16 : 8 ≤ depth → depth ≤ 12 → Walkable u (length s₀) → InRange (2 ^ depth) u s₀
-            → Width wd × (l < 64) × (reads wd * u .st ≤ p) × (p + 3 * u .sa + (reads wd - 1) * u .st < length s) × (8 ≤ depth) × (depth ≤ 12)
-            × PieceUnder (2 ^ depth) (reads wd) (u .sa) (u .st) p s
+            → Width wd × (l < 64) × (reads wd * u .sample-step ≤ p) × (p + 3 * u .line-step + (reads wd - 1) * u .sample-step < length s) × (8 ≤ depth) × (depth ≤ 12)
+            × PieceUnder (2 ^ depth) (reads wd) (u .line-step) (u .sample-step) p s
         asked-16 d h ok b =
             let g = asked ok in
             (g .0, g .1, g .2, g .3, d, h, rw (ew, v .index, v .done) (next-below depth e i u s₀ d ok b (v .k) is-set))
 
-        pub on-set : (s′ : List ℕ) → length s′ ≡ length s → s′ ≡ visit depth e i (u .sa) (u .st) wd l p s
-            → Moved depth e i u s₀ s′ ((xy * 2 ^ 1) % 2 ^ 32) (p + 4 * u .sa) (lvl + u .along)
+        pub on-set : (s′ : List ℕ) → length s′ ≡ length s → s′ ≡ visit depth e i (u .line-step) (u .sample-step) wd l p s
+            → Moved depth e i u s₀ s′ ((xy * 2 ^ 1) % 2 ^ 32) (p + 4 * u .line-step) (lvl + u .along)
         on-set s′ n es = next s′ (n ∙ v .size) (es ∙ rw (ew, el, v .index, v .done) (sym (visits-set _ _ _ (v .k) is-set)))

@@ -34,10 +34,10 @@ module _ (depth : ℕ) (e i : List ℕ) (lvl : ℕ) (t : Bounds) (et : t ≡ thr
   unfolding thresholds
   half-is = ap (λ (t : Bounds). t .half) et
 
-  pub visit-some : (sa st len q : ℕ) (s s′ : List ℕ) → lvl ≢ 0 → s′ ≡ pieceAt sa st (rule len t) q s → s′ ≡ visit depth e i sa st len lvl q s
+  pub visit-some : (line-step sample-step len q : ℕ) (s s′ : List ℕ) → lvl ≢ 0 → s′ ≡ pieceAt line-step sample-step (rule len t) q s → s′ ≡ visit depth e i line-step sample-step len lvl q s
   unfolding visit
-  visit-some sa st len q s s′ n p = rw (ne-eqb lvl 0 n, ← et) p
+  visit-some line-step sample-step len q s s′ n p = rw (ne-eqb lvl 0 n, ← et) p
 
-pub visit-none : (depth : ℕ) (e i : List ℕ) (sa st len lvl q : ℕ) (s : List ℕ) → lvl ≡ 0 → s ≡ visit depth e i sa st len lvl q s
+pub visit-none : (depth : ℕ) (e i : List ℕ) (line-step sample-step len lvl q : ℕ) (s : List ℕ) → lvl ≡ 0 → s ≡ visit depth e i line-step sample-step len lvl q s
 unfolding visit
-visit-none depth e i sa st len lvl q s z = rw (eq-eqb lvl 0 z)
+visit-none depth e i line-step sample-step len lvl q s z = rw (eq-eqb lvl 0 z)

@@ -17,12 +17,12 @@ pub record Ready (u : Units) (size n : ℕ) : Type 0 where
   pub behind : u .back ≤ u .at + n * u .along
   pub level : getD (u .levels) (u .at + n * u .along) 0 ≤ 63
   pub before : getD (u .levels) (u .at + n * u .along - u .back) 0 ≤ 63
-  pub from : reads (lenAt u n) * u .st ≤ indexAt u n
-  pub to : indexAt u n + 3 * u .sa + (reads (lenAt u n) - 1) * u .st < size
+  pub from : reads (lenAt u n) * u .sample-step ≤ indexAt u n
+  pub to : indexAt u n + 3 * u .line-step + (reads (lenAt u n) - 1) * u .sample-step < size
 
 pub record Walkable (u : Units) (size : ℕ) : Type 0 where
   pub step : u .along ≤ length (u .levels)
   pub ready : (n : ℕ) → hasBit (setIn u) n ≡ true → Ready u size n
 
 pub record InRange (m : ℕ) (u : Units) (s : List ℕ) : Type 0 where
-  pub piece : (n : ℕ) → hasBit (setIn u) n ≡ true → PieceUnder m (reads (lenAt u n)) (u .sa) (u .st) (indexAt u n) s
+  pub piece : (n : ℕ) → hasBit (setIn u) n ≡ true → PieceUnder m (reads (lenAt u n)) (u .line-step) (u .sample-step) (indexAt u n) s

@@ -42,12 +42,12 @@ abbrev pub chromaLen : ℕ → ℕ
 chromaLen zero = 4
 chromaLen (suc c) = 6
 
--- At place n, q0 of the first of the four lines is at index q + n * (4 * sa), the lines sa apart and a line's samples st; the unit's level
+-- At place n, q0 of the first of the four lines is at index q + n * (4 * line-step), the lines line-step apart and a line's samples sample-step; the unit's level
 -- byte is at at + n * along, and that of the unit before the edge back earlier. The masks are those of classes 0, 1, 2; uv is chroma
 pub record Units : Type 0 where
   pub q : ℕ
-  pub sa : ℕ
-  pub st : ℕ
+  pub line-step : ℕ
+  pub sample-step : ℕ
   pub m₀ : ℕ
   pub m₁ : ℕ
   pub m₂ : ℕ
@@ -59,8 +59,8 @@ pub record Units : Type 0 where
 
 -- in the order of the code's parameters
 abbrev pub units : ℕ → ℕ → ℕ → ℕ → ℕ → ℕ → Bool → List ℕ → ℕ → ℕ → ℕ → Units
-units q sa st m₀ m₁ m₂ uv levels at along back =
-    record { q = q; sa = sa; st = st; m₀ = m₀; m₁ = m₁; m₂ = m₂; uv = uv; levels = levels; at = at; along = along; back = back }
+units q line-step sample-step m₀ m₁ m₂ uv levels at along back =
+    record { q = q; line-step = line-step; sample-step = sample-step; m₀ = m₀; m₁ = m₁; m₂ = m₂; uv = uv; levels = levels; at = at; along = along; back = back }
 
 abbrev pub setIn : Units → ℕ
 setIn u = bitOr (bitOr (u .m₀) (u .m₁)) (u .m₂)
@@ -75,14 +75,14 @@ abbrev pub levelAt : Units → ℕ → ℕ
 levelAt u n = levelUsed (getD (u .levels) (u .at + n * u .along) 0) (getD (u .levels) (u .at + n * u .along - u .back) 0)
 
 abbrev pub indexAt : Units → ℕ → ℕ
-indexAt u n = u .q + n * (4 * u .sa)
+indexAt u n = u .q + n * (4 * u .line-step)
 
 -- one piece, if its level is not 0
 unfoldable pub visit : ℕ → List ℕ → List ℕ → ℕ → ℕ → ℕ → ℕ → ℕ → List ℕ → List ℕ
-visit depth e i sa st len lvl q s = cond (eqb lvl 0) s (pieceAt sa st (rule len (thresholds depth e i lvl)) q s)
+visit depth e i line-step sample-step len lvl q s = cond (eqb lvl 0) s (pieceAt line-step sample-step (rule len (thresholds depth e i lvl)) q s)
 
 abbrev pub visitAt : ℕ → List ℕ → List ℕ → Units → ℕ → List ℕ → List ℕ
-visitAt depth e i u n = visit depth e i (u .sa) (u .st) (lenAt u n) (levelAt u n) (indexAt u n)
+visitAt depth e i u n = visit depth e i (u .line-step) (u .sample-step) (lenAt u n) (levelAt u n) (indexAt u n)
 
 -- each set place, lowest first
 unfoldable pub walked : ℕ → List ℕ → List ℕ → Units → List ℕ → List ℕ

@@ -1,5 +1,5 @@
 // The walk over the mask bits of one line of units: `loop_filter_sb128_rust` of the Rust. Both passes are this code with other steps:
-// by columns sa is the stride and st 1, along is the levels' stride in bytes and back 4; by rows sa is 1 and st the stride, along 4 and
+// by columns line_step is the stride and sample_step 1, along is the levels' stride in bytes and back 4; by rows line_step is 1 and sample_step the stride, along 4 and
 // back the levels' stride.
 ghost use mathlib.Core.Path.{_≡_};
 ghost use Prim.Native.Nat.{ℕ, _+_, _-_, _*_, _^_, _<_, _≤_};
@@ -60,27 +60,34 @@ fn thresholds_of(depth: u32, e: &[u8; 64], i: &[u8; 64], l: u8) -> Bounds
 fn visit_8(
     dst: &mut [u8],
     q: usize,
-    sa: usize,
-    st: usize,
+    line_step: usize,
+    sample_step: usize,
     wd: u32,
     l: u8,
     e: &[u8; 64],
     i: &[u8; 64],
 )
-    requires { ⌜ Width wd × (l < 64) × (reads wd * st ≤ q) × (q + 3 * sa + (reads wd - 1) * st < length (now dst)) ⌝ }
-    ensures { λ _. ⌜ now (dst .exit) ≡ visit 8 (now (e .entry)) (now (i .entry)) sa st wd l q (now (dst .entry)) ⌝ }
+    requires { ⌜ Width wd × (l < 64) × (reads wd * «sample_step» ≤ q) × (q + 3 * «line_step» + (reads wd - 1) * «sample_step» < length (now dst)) ⌝ }
+    ensures { λ _. ⌜ now (dst .exit) ≡ visit 8 (now (e .entry)) (now (i .entry)) «line_step» «sample_step» wd l q (now (dst .entry)) ⌝ }
 {
     if l == 0 {
         return;
     }
-    piece::piece_8(dst, q, sa, st, wd, thresholds_of(8, e, i, l));
+    piece::piece_8(
+        dst,
+        q,
+        line_step,
+        sample_step,
+        wd,
+        thresholds_of(8, e, i, l),
+    );
 }
 
 pub fn walk_8(
     dst: &mut [u8],
     q: usize,
-    sa: usize,
-    st: usize,
+    line_step: usize,
+    sample_step: usize,
     m0: u32,
     m1: u32,
     m2: u32,
@@ -92,8 +99,8 @@ pub fn walk_8(
     e: &[u8; 64],
     i: &[u8; 64],
 )
-    requires { ⌜ Walkable (units q sa st m0 m1 m2 uv (now levels) at along back) (length (now dst)) ⌝ }
-    ensures { λ _. ⌜ now (dst .exit) ≡ walked 8 (now (e .entry)) (now (i .entry)) (units q sa st m0 m1 m2 uv (now (levels .entry)) at along back) (now (dst .entry)) ⌝ }
+    requires { ⌜ Walkable (units q «line_step» «sample_step» m0 m1 m2 uv (now levels) at along back) (length (now dst)) ⌝ }
+    ensures { λ _. ⌜ now (dst .exit) ≡ walked 8 (now (e .entry)) (now (i .entry)) (units q «line_step» «sample_step» m0 m1 m2 uv (now (levels .entry)) at along back) (now (dst .entry)) ⌝ }
 {
     let vm = m0 | m1 | m2;
     let mut xy = 1u32;
@@ -105,8 +112,8 @@ pub fn walk_8(
             visit_8(
                 dst,
                 p,
-                sa,
-                st,
+                line_step,
+                sample_step,
                 wd,
                 view::filter_level(levels, lvl, back),
                 e,
@@ -114,7 +121,7 @@ pub fn walk_8(
             );
         }
         xy <<= 1; // 0 after bit 31, and the walk stops
-        p += 4 * sa;
+        p += 4 * line_step;
         lvl += along;
     }
 }
@@ -122,28 +129,36 @@ pub fn walk_8(
 fn visit_16(
     dst: &mut [u16],
     q: usize,
-    sa: usize,
-    st: usize,
+    line_step: usize,
+    sample_step: usize,
     wd: u32,
     l: u8,
     e: &[u8; 64],
     i: &[u8; 64],
     depth: u32,
 )
-    requires { ⌜ Width wd × (l < 64) × (reads wd * st ≤ q) × (q + 3 * sa + (reads wd - 1) * st < length (now dst)) × (8 ≤ depth) × (depth ≤ 12) × PieceUnder (2 ^ depth) (reads wd) sa st q (now dst) ⌝ }
-    ensures { λ _. ⌜ now (dst .exit) ≡ visit depth (now (e .entry)) (now (i .entry)) sa st wd l q (now (dst .entry)) ⌝ }
+    requires { ⌜ Width wd × (l < 64) × (reads wd * «sample_step» ≤ q) × (q + 3 * «line_step» + (reads wd - 1) * «sample_step» < length (now dst)) × (8 ≤ depth)
+        × (depth ≤ 12) × PieceUnder (2 ^ depth) (reads wd) «line_step» «sample_step» q (now dst) ⌝ }
+    ensures { λ _. ⌜ now (dst .exit) ≡ visit depth (now (e .entry)) (now (i .entry)) «line_step» «sample_step» wd l q (now (dst .entry)) ⌝ }
 {
     if l == 0 {
         return;
     }
-    piece::piece_16(dst, q, sa, st, wd, thresholds_of(depth, e, i, l));
+    piece::piece_16(
+        dst,
+        q,
+        line_step,
+        sample_step,
+        wd,
+        thresholds_of(depth, e, i, l),
+    );
 }
 
 pub fn walk_16(
     dst: &mut [u16],
     q: usize,
-    sa: usize,
-    st: usize,
+    line_step: usize,
+    sample_step: usize,
     m0: u32,
     m1: u32,
     m2: u32,
@@ -156,8 +171,9 @@ pub fn walk_16(
     i: &[u8; 64],
     depth: u32,
 )
-    requires { ⌜ (8 ≤ depth) × (depth ≤ 12) × Walkable (units q sa st m0 m1 m2 uv (now levels) at along back) (length (now dst)) × InRange (2 ^ depth) (units q sa st m0 m1 m2 uv (now levels) at along back) (now dst) ⌝ }
-    ensures { λ _. ⌜ now (dst .exit) ≡ walked depth (now (e .entry)) (now (i .entry)) (units q sa st m0 m1 m2 uv (now (levels .entry)) at along back) (now (dst .entry)) ⌝ }
+    requires { ⌜ (8 ≤ depth) × (depth ≤ 12) × Walkable (units q «line_step» «sample_step» m0 m1 m2 uv (now levels) at along back) (length (now dst))
+        × InRange (2 ^ depth) (units q «line_step» «sample_step» m0 m1 m2 uv (now levels) at along back) (now dst) ⌝ }
+    ensures { λ _. ⌜ now (dst .exit) ≡ walked depth (now (e .entry)) (now (i .entry)) (units q «line_step» «sample_step» m0 m1 m2 uv (now (levels .entry)) at along back) (now (dst .entry)) ⌝ }
 {
     let vm = m0 | m1 | m2;
     let mut xy = 1u32;
@@ -169,8 +185,8 @@ pub fn walk_16(
             visit_16(
                 dst,
                 p,
-                sa,
-                st,
+                line_step,
+                sample_step,
                 wd,
                 view::filter_level(levels, lvl, back),
                 e,
@@ -179,7 +195,7 @@ pub fn walk_16(
             );
         }
         xy <<= 1;
-        p += 4 * sa;
+        p += 4 * line_step;
         lvl += along;
     }
 }

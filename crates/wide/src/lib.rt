@@ -6,7 +6,7 @@ ghost use lib.ListN.{getD};
 ghost use Rattle.standard.specs.Math.{sumTo};
 ghost use Rattle.standard.specs.Wide.{tap, wide};
 ghost use Rattle.line.specs.Place.{of, make};
-use line::Line;
+use line::LineSamples;
 
 fn tap5(a0: u16, a1: u16, a2: u16, a3: u16, a4: u16) -> u16
     ensures { λ r. ⌜ r ≡ (sumTo (λ j. tap 2 1 j * getD (a0 ∷ a1 ∷ a2 ∷ a3 ∷ a4 ∷ []) j 0) 5 + 4) / 8 ⌝ }
@@ -15,7 +15,7 @@ fn tap5(a0: u16, a1: u16, a2: u16, a3: u16, a4: u16) -> u16
         >> 3) as u16
 }
 
-pub fn wide6(l: Line) -> Line
+pub fn wide6(l: LineSamples) -> LineSamples
     ensures { λ r. ⌜ r ≡ make (wide 2 1 3 (of l)) ⌝ }
 {
     let mut r = l;
@@ -40,7 +40,7 @@ fn tap7(a0: u16, a1: u16, a2: u16, a3: u16, a4: u16, a5: u16, a6: u16) -> u16
         >> 3) as u16
 }
 
-pub fn wide8(l: Line) -> Line
+pub fn wide8(l: LineSamples) -> LineSamples
     ensures { λ r. ⌜ r ≡ make (wide 3 0 3 (of l)) ⌝ }
 {
     let mut r = l;
@@ -119,7 +119,7 @@ fn sixteenth(s: u32) -> u16
 
 // The sums of p5 to q5 divided.
 fn sixteenths(
-    l: Line,
+    l: LineSamples,
     s1: u32,
     s2: u32,
     s3: u32,
@@ -132,8 +132,9 @@ fn sixteenths(
     s10: u32,
     s11: u32,
     s12: u32,
-) -> Line
-    requires { ⌜ (s1 ≤ 1048568) × (s2 ≤ 1048568) × (s3 ≤ 1048568) × (s4 ≤ 1048568) × (s5 ≤ 1048568) × (s6 ≤ 1048568) × (s7 ≤ 1048568) × (s8 ≤ 1048568) × (s9 ≤ 1048568) × (s10 ≤ 1048568) × (s11 ≤ 1048568) × (s12 ≤ 1048568) ⌝ }
+) -> LineSamples
+    requires { ⌜ (s1 ≤ 1048568) × (s2 ≤ 1048568) × (s3 ≤ 1048568) × (s4 ≤ 1048568) × (s5 ≤ 1048568) × (s6 ≤ 1048568) × (s7 ≤ 1048568) × (s8 ≤ 1048568) × (s9 ≤ 1048568)
+        × (s10 ≤ 1048568) × (s11 ≤ 1048568) × (s12 ≤ 1048568) ⌝ }
     ensures { λ r. ⌜ r ≡ make (λ k. getD (l .p6 ∷ s1 / 16 ∷ s2 / 16 ∷ s3 / 16 ∷ s4 / 16 ∷ s5 / 16 ∷ s6 / 16 ∷ s7 / 16 ∷ s8 / 16 ∷ s9 / 16 ∷ s10 / 16 ∷ s11 / 16 ∷ s12 / 16 ∷ l .q6 ∷ []) (k - 1) 0) ⌝ }
 {
     let mut r = l;
@@ -152,7 +153,7 @@ fn sixteenths(
     r
 }
 
-pub fn wide16(l: Line) -> Line
+pub fn wide16(l: LineSamples) -> LineSamples
     ensures { λ r. ⌜ r ≡ make (wide 6 1 4 (of l)) ⌝ }
 {
     let p6 = l.p6;

@@ -17,8 +17,11 @@ plane-16-requires c κs =
 
 plane-16-requires-2 : tie.Need-plane-16-requires-2
 plane-16-requires-2 c κs =
-    c .before .before .before .before .before .before .before .before .before .before .before .pre
-    (sym (c .before .before .before .before .before .before .chroma-on .ensures) ∙ not-false _ (c .before .before .before .before .before .if1 .left)) .1
+    let c₅ = c .before .before .before .before .before in
+    let c₆ = c₅ .before in
+    let c₁₁ = c₆ .before .before .before .before .before in
+    c₁₁ .pre
+    (sym (c₆ .chroma-on .ensures) ∙ not-false _ (c₅ .if1 .left)) .1
 
 same-length : tie.Need-same-length
 same-length c = search needs
@@ -28,7 +31,8 @@ same-length-2 c = search needs
 
 returns-2 : tie.Need-returns-2
 returns-2 c =
-    rw (sym (c .before .before .before .before .before .before .before .before .before .chroma-on .ensures) ∙ not-false _ (c .before .before .before .before .before .before .before .before .if1 .left))
+    rw (sym (c .before .before .before .before .before .before .before .before .before .chroma-on .ensures)
+    ∙ not-false _ (c .before .before .before .before .before .before .before .before .if1 .left))
     (c .before .before .before .before .before .before .plane-16 .ensures, c .before .before .plane-162 .ensures)
 
 pub chroma-16-spec : {M : Type 1} → statement M

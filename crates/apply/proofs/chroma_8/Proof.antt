@@ -29,7 +29,8 @@ same-length-2 c = search needs
 
 returns-2 : tie.Need-returns-2
 returns-2 c =
-    rw (sym (c .before .before .before .before .before .before .before .before .before .chroma-on .ensures) ∙ not-false _ (c .before .before .before .before .before .before .before .before .if1 .left))
+    rw (sym (c .before .before .before .before .before .before .before .before .before .chroma-on .ensures)
+    ∙ not-false _ (c .before .before .before .before .before .before .before .before .if1 .left))
     (c .before .before .before .before .before .before .plane-8 .ensures, c .before .before .plane-82 .ensures)
 
 pub chroma-8-spec : {M : Type 1} → statement M

@@ -10,10 +10,10 @@ ver-requires : tie.Need-ver-requires
 ver-requires c κs = search needs
 
 luma-units-requires : tie.Need-luma-units-requires
-luma-units-requires c κs = c .before .before .pre .wide .1
+luma-units-requires c κs = c .before .before .pre .width .1
 
 luma-units-requires-2 : tie.Need-luma-units-requires-2
-luma-units-requires-2 c κs = c .before .before .before .pre .high .1
+luma-units-requires-2 c κs = c .before .before .before .pre .height .1
 
 superblock-units-requires : tie.Need-superblock-units-requires
 superblock-units-requires c κs = search needs
@@ -26,13 +26,13 @@ returns c =
     let a = c .before .before .before .before .before .before .args in
     (λ q. record {
       plane = a .n;
-      ssx = c .before .before .before .before .before .hor .ensures q;
-      ssy = c .before .before .before .before .ver .ensures q;
+      «ss_hor» = c .before .before .before .before .before .hor .ensures q;
+      «ss_ver» = c .before .before .before .before .ver .ensures q;
       w4 = record { 0 = c .before .before .before .luma-units .ensures q };
       h4 = record { 0 = c .before .before .luma-units2 .ensures q };
       sb4 = record { 0 = c .before .superblock-units .ensures q };
       stride = c .stride-of .ensures q;
-      pitch = a .c .pitch;
+      «level_stride» = a .c .«level_stride»;
     })
 
 pub component-spec : {M : Type 1} → statement M

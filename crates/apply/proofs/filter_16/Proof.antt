@@ -9,7 +9,7 @@ use Rattle.checks.specs.Call.{lent, luma}
 use Rattle.checks.specs.Tests.{number}
 use Rattle.checks.proofs.Accepted.{filtered-u, filtered-v}
 use Rattle.apply.specs.Apply.{limits, Ready16}
-use Rattle.apply.proofs.Readies.{ready16}
+use Rattle.apply.proofs.ReadyPlanes.{ready16}
 use Rattle.apply.proofs.Answers.{refusal, work}
 use Rattle.apply.proofs.filter_16.Statement.{statement}
 use Rattle.apply.proofs.filter_16.Tie as tie
@@ -59,12 +59,16 @@ same-length-6 c = search needs
 
 returns-2 : tie.Need-returns-2
 returns-2 c =
+    let c₄ = c .before .before .before .before in
+    let c₉ = c₄ .before .before .before .before .before in
+    let c₁₁ = c₉ .before .before in
+    let c₁₂ = c₁₁ .before in
     let a = c .before .before .before .before .before .before .before .before .before .before .before .before .before .before .before .before .before .before .before .before .before .args in
     let l = limits (now (a .e)) (now (a .i)) in
     let m = lent (now (a .luma)) (now (a .u)) (now (a .v)) (now (a .levels)) (now (a .masks)) in
-    let e : number (a .c) m ≡ 0 = sym (c .before .before .before .before .before .before .before .before .before .before .before .before .number-16 .ensures) ∙ c .before .before .before .before .before .before .before .before .before .before .before .if1 .left in
-    let p = c .before .before .before .before .chroma-16 .ensures in
-    work (a .c) l m _ _ _ e (c .before .before .before .before .before .before .before .before .before .plane-16 .ensures) (p .0) (p .1)
+    let e : number (a .c) m ≡ 0 = sym (c₁₂ .number-16 .ensures) ∙ c₁₁ .if1 .left in
+    let p = c₄ .chroma-16 .ensures in
+    work (a .c) l m _ _ _ e (c₉ .plane-16 .ensures) (p .0) (p .1)
 
 pub filter-16-spec : {M : Type 1} → statement M
 filter-16-spec =

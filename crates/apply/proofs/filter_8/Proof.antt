@@ -9,7 +9,7 @@ use Rattle.checks.specs.Call.{lent, luma}
 use Rattle.checks.specs.Tests.{number}
 use Rattle.checks.proofs.Accepted.{filtered-u, filtered-v}
 use Rattle.apply.specs.Apply.{limits, Ready}
-use Rattle.apply.proofs.Readies.{ready}
+use Rattle.apply.proofs.ReadyPlanes.{ready}
 use Rattle.apply.proofs.Answers.{refusal, work}
 use Rattle.apply.proofs.filter_8.Statement.{statement}
 use Rattle.apply.proofs.filter_8.Tie as tie
@@ -34,19 +34,23 @@ returns c =
 
 plane-8-requires : tie.Need-plane-8-requires
 plane-8-requires c κs =
+    let c₁₁ = c .before .before .before .before .before .before .before .before .before .before .before in
     let a = c .before .before .before .before .before .before .before .before .before .before .before .args in
     let l = limits (now (a .e)) (now (a .i)) in
     let m = lent (now (a .luma)) (now (a .u)) (now (a .v)) (now (a .levels)) (now (a .masks)) in
     let e : number (a .c) m ≡ 0 = sym (c .before .before .number-8 .ensures) ∙ c .before .if1 .left in
-    (c .before .before .before .before .before .before .before .before .before .before .before .pre, ready (a .c) l m e luma)
+    (c₁₁ .pre, ready (a .c) l m e luma)
 
 chroma-8-requires : tie.Need-chroma-8-requires
 chroma-8-requires c κs =
+    let c₆ = c .before .before .before .before .before .before in
+    let c₇ = c₆ .before in
+    let c₁₆ = c₇ .before .before .before .before .before .before .before .before .before in
     let a = c .before .before .before .before .before .before .before .before .before .before .before .before .before .before .before .before .args in
     let l = limits (now (a .e)) (now (a .i)) in
     let m = lent (now (a .luma)) (now (a .u)) (now (a .v)) (now (a .levels)) (now (a .masks)) in
-    let e : number (a .c) m ≡ 0 = sym (c .before .before .before .before .before .before .before .number-8 .ensures) ∙ c .before .before .before .before .before .before .if1 .left in
-    (c .before .before .before .before .before .before .before .before .before .before .before .before .before .before .before .before .pre, λ o. (ready (a .c) l m e (filtered-u (a .c) o), ready (a .c) l m e (filtered-v (a .c) o)))
+    let e : number (a .c) m ≡ 0 = sym (c₇ .number-8 .ensures) ∙ c₆ .if1 .left in
+    (c₁₆ .pre, λ o. (ready (a .c) l m e (filtered-u (a .c) o), ready (a .c) l m e (filtered-v (a .c) o)))
 
 same-length-4 : tie.Need-same-length-4
 same-length-4 c = search needs
@@ -59,12 +63,16 @@ same-length-6 c = search needs
 
 returns-2 : tie.Need-returns-2
 returns-2 c =
+    let c₄ = c .before .before .before .before in
+    let c₉ = c₄ .before .before .before .before .before in
+    let c₁₁ = c₉ .before .before in
+    let c₁₂ = c₁₁ .before in
     let a = c .before .before .before .before .before .before .before .before .before .before .before .before .before .before .before .before .before .before .before .before .before .args in
     let l = limits (now (a .e)) (now (a .i)) in
     let m = lent (now (a .luma)) (now (a .u)) (now (a .v)) (now (a .levels)) (now (a .masks)) in
-    let e : number (a .c) m ≡ 0 = sym (c .before .before .before .before .before .before .before .before .before .before .before .before .number-8 .ensures) ∙ c .before .before .before .before .before .before .before .before .before .before .before .if1 .left in
-    let p = c .before .before .before .before .chroma-8 .ensures in
-    work (a .c) l m _ _ _ e (c .before .before .before .before .before .before .before .before .before .plane-8 .ensures) (p .0) (p .1)
+    let e : number (a .c) m ≡ 0 = sym (c₁₂ .number-8 .ensures) ∙ c₁₁ .if1 .left in
+    let p = c₄ .chroma-8 .ensures in
+    work (a .c) l m _ _ _ e (c₉ .plane-8 .ensures) (p .0) (p .1)
 
 pub filter-8-spec : {M : Type 1} → statement M
 filter-8-spec =

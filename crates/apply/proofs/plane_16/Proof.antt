@@ -2,8 +2,9 @@
 use mathlib.Core.Path.{ap, _∙_}
 use borrow.Author.Needs.{needs}
 use denote.Ref.{now}
+use Rattle.plane.specs.Line.{passOf}
 use Rattle.filter.specs.declared.Component.{Component}
-use Rattle.filter.specs.Filter.{tables, passOf, planeOf, sweepOf}
+use Rattle.filter.specs.Filter.{tables, planeOf, sweepOf}
 use Rattle.apply.specs.Apply.{swept}
 use Rattle.apply.proofs.plane_16.Statement.{statement}
 use Rattle.apply.proofs.plane_16.Tie as tie

@@ -4,7 +4,8 @@ use Prim.Native.Nat.{ℕ}
 use lib.ListN.{length}
 use borrow.Author.Needs.{needs}
 use denote.Ref.{now}
-use Rattle.filter.specs.Filter.{tables, passOf, planeOf, sweepOf}
+use Rattle.plane.specs.Line.{passOf}
+use Rattle.filter.specs.Filter.{tables, planeOf, sweepOf}
 use Rattle.filter.specs.Ready.{Stored, Fit}
 use Rattle.apply.specs.Apply.{componentOf, swept}
 use Rattle.apply.proofs.plane_8.Statement.{statement}

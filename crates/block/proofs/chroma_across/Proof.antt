@@ -20,7 +20,7 @@ chroma-side-requires c κs =
     let l = c .before .luma-units .ensures in (
       omega (arith, l, a .pre .1),
       omega (arith, l, a .pre .0 .0),
-      omega (arith, a .pre .2, block-rule (a .args .b .size) (a .pre .0 .2) .wide .high),
+      omega (arith, a .pre .2, block-rule (a .args .b .size) (a .pre .0 .2) .width .at-most),
       rw (c .ss-hor .ensures) (ss-hor-le (a .args .b .layout)),
     )
 

@@ -20,7 +20,7 @@ chroma-side-requires c κs =
     let l = c .before .luma-units .ensures in (
       omega (arith, l, a .pre .1),
       omega (arith, l, a .pre .0 .1),
-      omega (arith, a .pre .2, block-rule (a .args .b .size) (a .pre .0 .2) .high .high),
+      omega (arith, a .pre .2, block-rule (a .args .b .size) (a .pre .0 .2) .height .at-most),
       rw (c .ss-ver .ensures) (ss-ver-le (a .args .b .layout)),
     )
 

@@ -1,6 +1,6 @@
 -- `chroma_side` meets its contract: a place up to the frame's end has its chroma unit up to the plane's.
 use borrow.Author.Needs.{needs}
-use Rattle.block.proofs.Passed.{chroma-unit-le}
+use Rattle.block.proofs.TestsPassed.{chroma-unit-le}
 use Rattle.block.proofs.chroma_side.Statement.{statement}
 use Rattle.block.proofs.chroma_side.Tie as tie
 
@@ -11,7 +11,10 @@ chroma-unit-requires : tie.Need-chroma-unit-requires
 chroma-unit-requires c κs = search needs
 
 sub-least : tie.Need-sub-least
-sub-least c = rw (c .before .before .before .chroma-units .ensures, c .before .before .chroma-unit .ensures) (chroma-unit-le (c .before .before .before .before .args .u .0) (c .before .before .before .before .args .all .0) (c .before .before .before .before .args .ss) (c .before .before .before .before .pre .0) (c .before .before .before .before .pre .3))
+sub-least c =
+    rw (c .before .before .before .chroma-units .ensures, c .before .before .chroma-unit .ensures)
+    (chroma-unit-le (c .before .before .before .before .args .u .0) (c .before .before .before .before .args .all .0) (c .before .before .before .before .args .ss)
+    (c .before .before .before .before .pre .0) (c .before .before .before .before .pre .3))
 
 chroma-units-requires-2 : tie.Need-chroma-units-requires-2
 chroma-units-requires-2 c κs = search needs

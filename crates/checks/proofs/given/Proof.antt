@@ -1,7 +1,7 @@
 -- `given` meets its contract: each test is asked where those before it have failed.
 use mathlib.Core.Path.{refl, sym, _∙_}
 use borrow.Author.Needs.{needs}
-use Rattle.checks.proofs.Passed.{shaped, roomy}
+use Rattle.checks.proofs.TestsPassed.{shaped, roomy}
 use Rattle.checks.proofs.given.Statement.{statement}
 use Rattle.checks.proofs.given.Tie as tie
 
@@ -44,7 +44,11 @@ returns-4 c = rw (
 levels-bad-requires : tie.Need-levels-bad-requires
 levels-bad-requires c κs = (
   shaped (c .before .before .before .before .before .before .before .before .before .args .c) (sym (c .before .before .before .shape-bad .ensures) ∙ c .before .before .if3 .left),
-  (c .before .before .before .before .before .before .before .before .before .args .masks, roomy (c .before .before .before .before .before .before .before .before .before .args .c) _ (c .before .before .before .before .before .before .before .before .before .args .masks) (sym (c .before .length-bad .ensures) ∙ c .if4 .left)),
+  (
+    c .before .before .before .before .before .before .before .before .before .args .masks,
+    roomy (c .before .before .before .before .before .before .before .before .before .args .c) _
+        (c .before .before .before .before .before .before .before .before .before .args .masks) (sym (c .before .length-bad .ensures) ∙ c .if4 .left),
+  ),
 )
 
 returns-5 : tie.Need-returns-5

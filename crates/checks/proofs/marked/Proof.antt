@@ -1,7 +1,7 @@
 -- `marked` meets its contract: each test is asked where those before it have failed.
 use mathlib.Core.Path.{refl, sym, _∙_}
 use borrow.Author.Needs.{needs}
-use Rattle.checks.proofs.Passed.{off, on}
+use Rattle.checks.proofs.TestsPassed.{off, on}
 use Rattle.checks.proofs.marked.Statement.{statement}
 use Rattle.checks.proofs.marked.Tie as tie
 
@@ -18,10 +18,22 @@ returns-2 : tie.Need-returns-2
 returns-2 c = rw (on (c .before .before .before .inside .ensures) (c .before .before .if1 .left), sym (c .before .found .ensures .0) ∙ c .if2 .taken) refl
 
 returns-3 : tie.Need-returns-3
-returns-3 c = rw (on (c .before .before .before .before .inside .ensures) (c .before .before .before .if1 .left), sym (c .before .before .found .ensures .0) ∙ c .before .if2 .left, sym (c .before .before .found .ensures .1) ∙ c .if3 .taken) refl
+returns-3 c =
+    rw (
+      on (c .before .before .before .before .inside .ensures) (c .before .before .before .if1 .left),
+      sym (c .before .before .found .ensures .0)
+          ∙ c .before .if2 .left,
+      sym (c .before .before .found .ensures .1) ∙ c .if3 .taken,
+    ) refl
 
 returns-4 : tie.Need-returns-4
-returns-4 c = rw (on (c .before .before .before .before .inside .ensures) (c .before .before .before .if1 .left), sym (c .before .before .found .ensures .0) ∙ c .before .if2 .left, sym (c .before .before .found .ensures .1) ∙ c .if3 .left) refl
+returns-4 c =
+    rw (
+      on (c .before .before .before .before .inside .ensures) (c .before .before .before .if1 .left),
+      sym (c .before .before .found .ensures .0)
+          ∙ c .before .if2 .left,
+      sym (c .before .before .found .ensures .1) ∙ c .if3 .left,
+    ) refl
 
 pub marked-spec : {M : Type 1} → statement M
 marked-spec =

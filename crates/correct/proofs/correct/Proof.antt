@@ -5,7 +5,7 @@ use lib.ListN.{length}
 use denote.Ref.{now}
 use borrow.Author.Tests.{ne-eqb}
 use borrow.Author.Needs.{needs}
-use Rattle.correct.proofs.Sounds.{ready-luma, ready-chroma}
+use Rattle.correct.proofs.Corrected.{ready-luma, ready-chroma}
 use Rattle.correct.specs.Correct.{planeDone}
 use Rattle.correct.specs.Answer.{Ready}
 use Rattle.correct.proofs.correct.Statement.{statement}
@@ -18,7 +18,9 @@ returns : tie.Need-returns
 returns c = record { code = c .before .number .ensures; masks = rw (ne-eqb (c .before .number .result) 0 (c .if1 .taken)) refl }
 
 correct-plane-requires : tie.Need-correct-plane-requires
-correct-plane-requires c κs = ready-luma (c .before .before .before .before .before .before .args .t) _ (now (c .before .before .before .before .before .before .args .context)) (now (c .before .before .before .before .before .before .args .context-uv)) (sym (c .before .before .number .ensures) ∙ c .before .if1 .left)
+correct-plane-requires c κs =
+    ready-luma (c .before .before .before .before .before .before .args .t) _ (now (c .before .before .before .before .before .before .args .context))
+    (now (c .before .before .before .before .before .before .args .context-uv)) (sym (c .before .before .number .ensures) ∙ c .before .if1 .left)
 
 correct-plane-requires-2 : tie.Need-correct-plane-requires-2
 correct-plane-requires-2 c κs = let a = c .before .before .before .before .before .before .before .before .before .before .args in

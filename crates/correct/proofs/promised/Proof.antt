@@ -1,5 +1,5 @@
 -- `promised` meets its contract: the promises are proved in Told.
-use Rattle.correct.proofs.Told.{promises}
+use Rattle.correct.proofs.AnswerLaws.{promises}
 use Rattle.correct.proofs.promised.Statement.{statement}
 use Rattle.correct.proofs.promised.Tie as tie
 

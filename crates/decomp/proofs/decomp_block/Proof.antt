@@ -1,4 +1,4 @@
--- The rows passed are done, each as wide as the width counts.
+-- The rows passed are done, each as width as the width counts.
 use mathlib.Core.Path.{_≡_, refl, _∙_}
 use Prim.Native.Nat.{_-_, _≤_}
 use native.Mathlib.Omega.{arith}
@@ -24,7 +24,7 @@ luma-tx-wide-requires c κs = search needs
 tx-count-requires : tie.Need-tx-count-requires Inv-loop μ-loop
 tx-count-requires c κs =
     let v = c .before .before .pre .1 in
-    (v .wide .0, v .wide .1, rw (c .luma-tx-wide .ensures) (tx-rule _ (v .code) .wide .low))
+    (v .width .0, v .width .1, rw (c .luma-tx-wide .ensures) (tx-rule _ (v .code) .width .low))
 
 luma-tx-high-requires : tie.Need-luma-tx-high-requires Inv-loop μ-loop
 luma-tx-high-requires c κs = search needs
@@ -32,7 +32,7 @@ luma-tx-high-requires c κs = search needs
 tx-count-requires-2 : tie.Need-tx-count-requires-2 Inv-loop μ-loop
 tx-count-requires-2 c κs =
     let v = c .before .before .before .before .pre .1 in
-    (v .high .0, v .high .1, rw (c .luma-tx-high .ensures) (tx-rule _ (v .code) .high .low))
+    (v .height .0, v .height .1, rw (c .luma-tx-high .ensures) (tx-rule _ (v .code) .height .low))
 
 loop-holds : tie.Need-loop-holds Inv-loop μ-loop
 loop-holds c = (omega arith, refl, refl)

@@ -40,7 +40,8 @@ loop-again c =
     let f = c .before .before .fill-pair in (
       omega arith,
       f .kept .0 ∙ c₅ .loop .inv .1,
-      classes-step (a .args .at) (a .args .w) (c₅ .loop .y) (a .args .u) (a .args .v) _ _ _ (a .pre .2) (omega (arith, c .before .before .before .before .loop-test .taken, a .pre .3)) (c₅ .loop .inv .2)
+      classes-step (a .args .at) (a .args .w) (c₅ .loop .y) (a .args .u) (a .args .v) _ _ _ (a .pre .2)
+          (omega (arith, c .before .before .before .before .loop-test .taken, a .pre .3)) (c₅ .loop .inv .2)
           (f .ensures),
     )
 

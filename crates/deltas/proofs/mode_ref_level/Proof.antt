@@ -43,7 +43,8 @@ returns-3 c =
     let u = c .before .before .before .before .biased in
     let v = c .before .biased2 in (
       delta-inter _ _ _ _ _ _ (c .before .before .before .before .before .before .if1 .left) (u .result) _ (u .ensures .0 ∙ seen _ (c .before .before .before .before .before .biased-arg .given))
-          (c .before .before .before .if2 .left) (c .before .before .before .before .before .before .before .pre .0) (v .result) (v .ensures .0 ∙ seen _ (c .before .before .biased-arg2 .given)) (c .plus-delta2 .ensures .0),
+          (c .before .before .before .if2 .left) (c .before .before .before .before .before .before .before .pre .0) (v .result) (v .ensures .0
+          ∙ seen _ (c .before .before .biased-arg2 .given)) (c .plus-delta2 .ensures .0),
       c .plus-delta2 .ensures .1,
     )
 

@@ -3,15 +3,16 @@ use native.Mathlib.Omega.{arith}
 use mathlib.Core.Path.{sym, ap, _∙_, subst}
 use Prim.Native.Nat.{_^_}
 use lib.ListN.{length}
+use Rattle.plane.specs.Line.{passOf}
 use Rattle.walk.specs.Ready.{Walkable, InRange}
 use Rattle.walk.specs.Walk.{walked}
-use Rattle.filter.specs.declared.lines.Line.{Line}
-use Rattle.filter.specs.Filter.{tables, passOf}
+use Rattle.filter.specs.declared.lines.UnitLine.{UnitLine}
+use Rattle.filter.specs.Filter.{tables}
 use Rattle.filter.specs.Ready.{Under}
 use Rattle.filter.specs.Lines.{unitsIn}
-use Rattle.filter.proofs.Spots.{places-le}
-use Rattle.filter.proofs.Acts.{line-walked}
-use Rattle.filter.proofs.Rooms.{walkable}
+use Rattle.filter.proofs.UnitPlaces.{places-le}
+use Rattle.filter.proofs.UnitActs.{line-walked}
+use Rattle.filter.proofs.PieceRooms.{walkable}
 use Rattle.filter.proofs.Ranges.{in-range, stays}
 use Rattle.filter.proofs.Groups.{counted}
 use borrow.Author.Needs.{needs}
@@ -19,16 +20,37 @@ use Rattle.filter.proofs.line_16.Statement.{statement}
 use Rattle.filter.proofs.line_16.Tie as tie
 
 line-of-requires : tie.Need-line-of-requires
-line-of-requires c κs = let t = c .before .before .before in let a = t .args in counted (a .c) (tables (a .depth) (a .levels .now) (a .masks .now) (a .e .now) (a .i .now)) (a .k) (a .g) (a .a) (length (a .dst .now)) (t .pre .0) (passOf (a .rowwise)) (t .pre .1) (t .pre .2) (omega arith) (omega arith)
+line-of-requires c κs = let t = c .before .before .before in let a = t .args in
+    counted (a .c) (tables (a .depth) (a .levels .now) (a .masks .now) (a .e .now) (a .i .now)) (a .k) (a .rec) (a .a) (length (a .dst .now)) (t .pre .0)
+    (passOf (a .rowwise)) (t .pre .1) (t .pre .2) (omega arith) (omega arith)
 
 walk-16-requires : tie.Need-walk-16-requires
-walk-16-requires c κs = let t = c .before .before .before .before .before .before in let a = t .args in (t .pre .3, t .pre .4, subst (λ (l : Line). Walkable (unitsIn (a .c) (a .levels .now) l) (length (a .dst .now))) (sym (c .before .before .line-of .ensures)) (walkable (a .c) (tables (a .depth) (a .levels .now) (a .masks .now) (a .e .now) (a .i .now)) (passOf (a .rowwise)) (a .k) (a .g) (a .a) (length (a .dst .now)) (t .pre .0) (t .pre .1) (t .pre .2) (λ j. omega (arith, c .before .before .before .shared-slice-known2 .given j))), subst (λ (l : Line). InRange (2 ^ a .depth) (unitsIn (a .c) (a .levels .now) l) (a .dst .now)) (sym (c .before .before .line-of .ensures)) (in-range (a .c) (tables (a .depth) (a .levels .now) (a .masks .now) (a .e .now) (a .i .now)) (passOf (a .rowwise)) (a .k) (a .g) (a .a) (length (a .dst .now)) (2 ^ a .depth) (t .pre .0) (t .pre .1) (t .pre .2) (λ j. omega (arith, c .before .before .before .shared-slice-known2 .given j)) (a .dst .now) (t .pre .5)))
+walk-16-requires c κs = let t = c .before .before .before .before .before .before in let a = t .args in (
+  t .pre .3,
+  t .pre .4,
+  subst (λ (l : UnitLine). Walkable (unitsIn (a .c) (a .levels .now) l) (length (a .dst .now))) (sym (c .before .before .line-of .ensures))
+      (walkable (a .c) (tables (a .depth) (a .levels .now) (a .masks .now) (a .e .now) (a .i .now)) (passOf (a .rowwise)) (a .k) (a .rec) (a .a) (length (a .dst .now))
+      (t .pre .0) (t .pre .1) (t .pre .2) (λ j. omega (arith, c .before .before .before .shared-slice-known2 .given j))),
+  subst (λ (l : UnitLine). InRange (2 ^ a .depth) (unitsIn (a .c) (a .levels .now) l) (a .dst .now)) (sym (c .before .before .line-of .ensures))
+      (in-range (a .c) (tables (a .depth) (a .levels .now) (a .masks .now) (a .e .now) (a .i .now)) (passOf (a .rowwise)) (a .k) (a .rec) (a .a) (length (a .dst .now))
+      (2 ^ a .depth) (t .pre .0) (t .pre .1) (t .pre .2) (λ j. omega (arith, c .before .before .before .shared-slice-known2 .given j)) (a .dst .now) (t .pre .5)),
+)
 
 same-length : tie.Need-same-length
 same-length c = search needs
 
 returns : tie.Need-returns
-returns c = let t = c .before .before .before .before .before .before .before .before .before in let a = t .args in let x = c .before .before .walk-16 .ensures ∙ ap (λ (l : Line). walked (a .depth) (a .e .now) (a .i .now) (unitsIn (a .c) (a .levels .now) l) (a .dst .now)) (c .before .before .before .before .before .line-of .ensures) in (x ∙ sym (line-walked (a .c) (tables (a .depth) (a .levels .now) (a .masks .now) (a .e .now) (a .i .now)) (a .k) (a .g) (a .a) (length (a .dst .now)) (t .pre .0) (passOf (a .rowwise)) (t .pre .1) (t .pre .2) (λ j. omega (arith, c .before .before .before .before .before .before .shared-slice-known2 .given j)) (places-le (a .c) (tables (a .depth) (a .levels .now) (a .masks .now) (a .e .now) (a .i .now)) (a .k) (a .g) (a .a) (length (a .dst .now)) (t .pre .0) (passOf (a .rowwise))) (a .dst .now)), subst (Under (2 ^ a .depth) (a .c) (passOf (a .rowwise)) (a .k)) (sym x) (stays (a .c) (tables (a .depth) (a .levels .now) (a .masks .now) (a .e .now) (a .i .now)) (passOf (a .rowwise)) (a .k) (a .g) (a .a) (a .dst .now) (t .pre .0) (t .pre .1) (t .pre .2) (λ j. omega (arith, c .before .before .before .before .before .before .shared-slice-known2 .given j)) (t .pre .3) (t .pre .5)))
+returns c = let t = c .before .before .before .before .before .before .before .before .before in let a = t .args in
+    let x = c .before .before .walk-16 .ensures ∙ ap (λ (l : UnitLine). walked (a .depth) (a .e .now) (a .i .now) (unitsIn (a .c) (a .levels .now) l) (a .dst .now))
+    (c .before .before .before .before .before .line-of .ensures) in (
+      x ∙ sym (line-walked (a .c) (tables (a .depth) (a .levels .now) (a .masks .now) (a .e .now) (a .i .now)) (a .k) (a .rec) (a .a) (length (a .dst .now)) (t .pre .0)
+          (passOf (a .rowwise)) (t .pre .1) (t .pre .2) (λ j. omega (arith, c .before .before .before .before .before .before .shared-slice-known2 .given j))
+          (places-le (a .c) (tables (a .depth) (a .levels .now) (a .masks .now) (a .e .now) (a .i .now)) (a .k) (a .rec) (a .a) (length (a .dst .now)) (t .pre .0)
+          (passOf (a .rowwise))) (a .dst .now)),
+      subst (Under (2 ^ a .depth) (a .c) (passOf (a .rowwise)) (a .k)) (sym x)
+          (stays (a .c) (tables (a .depth) (a .levels .now) (a .masks .now) (a .e .now) (a .i .now)) (passOf (a .rowwise)) (a .k) (a .rec) (a .a) (a .dst .now) (t .pre .0)
+          (t .pre .1) (t .pre .2) (λ j. omega (arith, c .before .before .before .before .before .before .shared-slice-known2 .given j)) (t .pre .3) (t .pre .5)),
+    )
 
 pub line-16-spec : {M : Type 1} → statement M
 line-16-spec = tie.close (tie.spec line-of-requires walk-16-requires same-length returns)

@@ -2,30 +2,42 @@
 use native.Mathlib.Omega.{arith}
 use mathlib.Core.Path.{sym, ap, _∙_, subst}
 use lib.ListN.{length}
+use Rattle.plane.specs.Line.{passOf}
 use Rattle.walk.specs.Ready.{Walkable}
 use Rattle.walk.specs.Walk.{walked}
-use Rattle.filter.specs.declared.lines.Line.{Line}
-use Rattle.filter.specs.Filter.{tables, passOf}
+use Rattle.filter.specs.declared.lines.UnitLine.{UnitLine}
+use Rattle.filter.specs.Filter.{tables}
 use Rattle.filter.specs.Lines.{unitsIn}
-use Rattle.filter.proofs.Spots.{places-le}
-use Rattle.filter.proofs.Acts.{line-walked}
-use Rattle.filter.proofs.Rooms.{walkable}
+use Rattle.filter.proofs.UnitPlaces.{places-le}
+use Rattle.filter.proofs.UnitActs.{line-walked}
+use Rattle.filter.proofs.PieceRooms.{walkable}
 use Rattle.filter.proofs.Groups.{counted}
 use borrow.Author.Needs.{needs}
 use Rattle.filter.proofs.line_8.Statement.{statement}
 use Rattle.filter.proofs.line_8.Tie as tie
 
 line-of-requires : tie.Need-line-of-requires
-line-of-requires c κs = let t = c .before .before .before in let a = t .args in counted (a .c) (tables 8 (a .levels .now) (a .masks .now) (a .e .now) (a .i .now)) (a .k) (a .g) (a .a) (length (a .dst .now)) (t .pre .0) (passOf (a .rowwise)) (t .pre .1) (t .pre .2) (omega arith) (omega arith)
+line-of-requires c κs = let t = c .before .before .before in let a = t .args in
+    counted (a .c) (tables 8 (a .levels .now) (a .masks .now) (a .e .now) (a .i .now)) (a .k) (a .rec) (a .a) (length (a .dst .now)) (t .pre .0) (passOf (a .rowwise))
+    (t .pre .1) (t .pre .2) (omega arith) (omega arith)
 
 walk-8-requires : tie.Need-walk-8-requires
-walk-8-requires c κs = let t = c .before .before .before .before .before .before in let a = t .args in subst (λ (l : Line). Walkable (unitsIn (a .c) (a .levels .now) l) (length (a .dst .now))) (sym (c .before .before .line-of .ensures)) (walkable (a .c) (tables 8 (a .levels .now) (a .masks .now) (a .e .now) (a .i .now)) (passOf (a .rowwise)) (a .k) (a .g) (a .a) (length (a .dst .now)) (t .pre .0) (t .pre .1) (t .pre .2) (λ j. omega (arith, c .before .before .before .shared-slice-known2 .given j)))
+walk-8-requires c κs = let t = c .before .before .before .before .before .before in let a = t .args in
+    subst (λ (l : UnitLine). Walkable (unitsIn (a .c) (a .levels .now) l) (length (a .dst .now))) (sym (c .before .before .line-of .ensures))
+    (walkable (a .c) (tables 8 (a .levels .now) (a .masks .now) (a .e .now) (a .i .now)) (passOf (a .rowwise)) (a .k) (a .rec) (a .a) (length (a .dst .now)) (t .pre .0)
+    (t .pre .1) (t .pre .2) (λ j. omega (arith, c .before .before .before .shared-slice-known2 .given j)))
 
 same-length : tie.Need-same-length
 same-length c = search needs
 
 returns : tie.Need-returns
-returns c = let t = c .before .before .before .before .before .before .before .before .before in let a = t .args in c .before .before .walk-8 .ensures ∙ ap (λ (l : Line). walked 8 (a .e .now) (a .i .now) (unitsIn (a .c) (a .levels .now) l) (a .dst .now)) (c .before .before .before .before .before .line-of .ensures) ∙ sym (line-walked (a .c) (tables 8 (a .levels .now) (a .masks .now) (a .e .now) (a .i .now)) (a .k) (a .g) (a .a) (length (a .dst .now)) (t .pre .0) (passOf (a .rowwise)) (t .pre .1) (t .pre .2) (λ j. omega (arith, c .before .before .before .before .before .before .shared-slice-known2 .given j)) (places-le (a .c) (tables 8 (a .levels .now) (a .masks .now) (a .e .now) (a .i .now)) (a .k) (a .g) (a .a) (length (a .dst .now)) (t .pre .0) (passOf (a .rowwise))) (a .dst .now))
+returns c = let t = c .before .before .before .before .before .before .before .before .before in let a = t .args in
+    c .before .before .walk-8 .ensures ∙ ap (λ (l : UnitLine). walked 8 (a .e .now) (a .i .now) (unitsIn (a .c) (a .levels .now) l) (a .dst .now))
+    (c .before .before .before .before .before .line-of .ensures)
+    ∙ sym (line-walked (a .c) (tables 8 (a .levels .now) (a .masks .now) (a .e .now) (a .i .now)) (a .k) (a .rec) (a .a) (length (a .dst .now)) (t .pre .0)
+    (passOf (a .rowwise)) (t .pre .1) (t .pre .2) (λ j. omega (arith, c .before .before .before .before .before .before .shared-slice-known2 .given j))
+    (places-le (a .c) (tables 8 (a .levels .now) (a .masks .now) (a .e .now) (a .i .now)) (a .k) (a .rec) (a .a) (length (a .dst .now)) (t .pre .0) (passOf (a .rowwise)))
+    (a .dst .now))
 
 pub line-8-spec : {M : Type 1} → statement M
 line-8-spec = tie.close (tie.spec line-of-requires walk-8-requires same-length returns)

@@ -11,10 +11,10 @@ columns-track-requires : tie.Need-columns-track-requires
 columns-track-requires c κs =
     let a = c .before .args in
     let f = c .before .pre .0 in
-    (masks-in _ (a .w4 .0) (a .h4 .0) (a .sb4 .0) (a .k) f, omega arith, c .before .pre .1 .ssx-le, omega arith)
+    (masks-in _ (a .w4 .0) (a .h4 .0) (a .sb4 .0) (a .k) f, omega arith, c .before .pre .1 .ss-hor-le, omega arith)
 
 row-lines-requires : tie.Need-row-lines-requires
-row-lines-requires c κs = let f = c .before .before .pre .0 in (c .before .before .pre .1 .ssy-le, f .high, f .down, f .size)
+row-lines-requires c κs = let f = c .before .before .pre .0 in (c .before .before .pre .1 .ss-ver-le, f .height, f .down, f .size)
 
 answer-requires : tie.Need-answer-requires
 answer-requires c κs = search needs
@@ -24,9 +24,9 @@ returns c =
     let a = c .before .before .before .before .args in
     let f = c .before .before .before .before .pre .0 in
     let p = c .before .before .before .before .pre .1 in
-    columns-found (gridOf (a .luma) (a .ssx) (a .ssy) (a .w4 .0) (a .h4 .0)) p (a .masks .now)
+    columns-found (gridOf (a .luma) (a .ss-hor) (a .ss-ver) (a .w4 .0) (a .h4 .0)) p (a .masks .now)
     (λ i. omega (arith, c .before .before .before .shared-slice-known .given i)) (a .sb4 .0) (a .k)
-    (lines-of _ (a .w4 .0) (a .h4 .0) (a .sb4 .0) (a .k) f (a .ssy) (p .ssy-le)) (halves-of _ (a .w4 .0) (a .h4 .0) (a .sb4 .0) (a .k) f) _ _ _
+    (lines-of _ (a .w4 .0) (a .h4 .0) (a .sb4 .0) (a .k) f (a .ss-ver) (p .ss-ver-le)) (halves-of _ (a .w4 .0) (a .h4 .0) (a .sb4 .0) (a .k) f) _ _ _
     (c .before .before .columns-track .ensures) (c .before .row-lines .ensures) (c .answer .ensures)
 
 pub columns-spec : {M : Type 1} → statement M

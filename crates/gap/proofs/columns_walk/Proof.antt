@@ -1,4 +1,4 @@
--- `columns_walk` meets its contract: after g records the state is that of their units.
+-- `columns_walk` meets its contract: after rec records the state is that of their units.
 use mathlib.Core.Path.{_≡_}
 use Prim.Native.Nat.{_+_, _-_, _*_, _/_, _^_, _≤_}
 use native.Mathlib.Omega.{arith}
@@ -11,10 +11,10 @@ use Rattle.gap.proofs.columns_walk.Statement.{statement}
 use Rattle.gap.proofs.columns_walk.Tie as tie
 
 abbrev Inv-loop : tie.InvT-loop
-Inv-loop masks luma halves base ss wide groups side t₀ g₀ t g = (g ≤ groups) × (t ≡ track (columnWords masks luma halves base (32 / 2 ^ ss)) wide (g * (32 / 2 ^ ss)))
+Inv-loop masks luma halves base ss width records side t₀ g₀ t rec = (rec ≤ records) × (t ≡ track (columnWords masks luma halves base (32 / 2 ^ ss)) width (rec * (32 / 2 ^ ss)))
 
 abbrev μ-loop : tie.MeasureT-loop
-μ-loop masks luma halves base ss wide groups side t₀ g₀ t g = groups - g
+μ-loop masks luma halves base ss width records side t₀ g₀ t rec = records - rec
 
 shr-side : tie.Need-shr-side Inv-loop μ-loop
 shr-side c = search needs
@@ -25,7 +25,7 @@ start-requires c κs = search needs
 loop-holds : tie.Need-loop-holds Inv-loop μ-loop
 loop-holds c =
     let a = c .before .before .args in
-    (omega arith, columns-none (a .masks .now) (a .luma) (a .halves) (a .base) (a .ss) (a .wide) (omega arith) _ (c .start .ensures))
+    (omega arith, columns-none (a .masks .now) (a .luma) (a .halves) (a .base) (a .ss) (a .width) (omega arith) _ (c .start .ensures))
 
 in-record-requires : tie.Need-in-record-requires Inv-loop μ-loop
 in-record-requires c κs = (side-le (c .before .before .before .before .args .ss) (omega arith), omega arith)
@@ -39,13 +39,13 @@ add-part c = search needs
 part-requires : tie.Need-part-requires Inv-loop μ-loop
 part-requires c κs =
     let a = c .before .before .before .before .before .args in (
-      fewer-units (a .luma) (a .base + 640 * c .before .before .loop .g) _ 32 _ (omega (arith, side-le (a .ss) (omega arith))) (omega arith),
+      fewer-units (a .luma) (a .base + 640 * c .before .before .loop .rec) _ 32 _ (omega (arith, side-le (a .ss) (omega arith))) (omega arith),
       omega
           (arith, c .in-record .ensures),
     )
 
-add-g : tie.Need-add-g Inv-loop μ-loop
-add-g c = search needs
+add-rec : tie.Need-add-rec Inv-loop μ-loop
+add-rec c = search needs
 
 loop-less : tie.Need-loop-less Inv-loop μ-loop
 loop-less c = search needs
@@ -54,12 +54,12 @@ loop-again : tie.Need-loop-again Inv-loop μ-loop
 loop-again c =
     let a = c .before .before .before .before .before .before .args in (
       omega arith,
-      columns-more (a .masks .now) (a .luma) (a .halves) (a .base) (a .ss) (a .wide) (omega arith) (c .before .before .before .loop .g) _ _ _
+      columns-more (a .masks .now) (a .luma) (a .halves) (a .base) (a .ss) (a .width) (omega arith) (c .before .before .before .loop .rec) _ _ _
           (c .before .in-record .ensures) (c .before .before .before .loop .inv .1) (c .part .ensures),
     )
 
 returns : tie.Need-returns Inv-loop μ-loop
-returns c = let e : c .before .loop .g ≡ c .before .before .before .before .args .groups = omega arith in rw (← e) (c .before .loop .inv .1)
+returns c = let e : c .before .loop .rec ≡ c .before .before .before .before .args .records = omega arith in rw (← e) (c .before .loop .inv .1)
 
 pub columns-walk-spec : {M : Type 1} → statement M
 columns-walk-spec =
@@ -74,7 +74,7 @@ columns-walk-spec =
     mul-part
     add-part
     part-requires
-    add-g
+    add-rec
     loop-less
     loop-again
     returns)

@@ -1,5 +1,5 @@
 -- `promised` meets its contract: the promises are proved in Told.
-use Rattle.gap.proofs.Told.{promises}
+use Rattle.gap.proofs.NumbersMean.{promises}
 use Rattle.gap.proofs.promised.Statement.{statement}
 use Rattle.gap.proofs.promised.Tie as tie
 

@@ -30,7 +30,7 @@ returns : tie.Need-returns
 returns c =
     let a = c .before .before .before .args in
     c .line-word .ensures
-    ∙ ap (lineWord (16 / 2 ^ a .ss)) (c .before .in-record .ensures ∙ ap (λ (n : ℕ). inRecord (32 / 2 ^ a .ss) n (a .g))
+    ∙ ap (lineWord (16 / 2 ^ a .ss)) (c .before .in-record .ensures ∙ ap (λ (n : ℕ). inRecord (32 / 2 ^ a .ss) n (a .rec))
     (c .before .before .chroma-units .ensures))
 
 pub record-lines-spec : {M : Type 1} → statement M

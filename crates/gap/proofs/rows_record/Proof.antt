@@ -21,9 +21,9 @@ returns c =
     let a = c .before .before .before .before .args in
     let f = c .before .before .before .before .pre .0 in
     let p = c .before .before .before .before .pre .1 in
-    record-found (gridOf (a .luma) (a .ssx) (a .ssy) (a .w4 .0) (a .h4 .0)) p (a .masks .now)
-    (λ i. omega (arith, c .before .before .before .shared-slice-known .given i)) (a .sb4 .0) (a .k) (a .g)
-    (lines-of _ (a .w4 .0) (a .h4 .0) (a .sb4 .0) (a .k) f (a .ssy) (p .ssy-le)) _ _ _ (c .before .before .rows-track .ensures)
+    record-found (gridOf (a .luma) (a .ss-hor) (a .ss-ver) (a .w4 .0) (a .h4 .0)) p (a .masks .now)
+    (λ i. omega (arith, c .before .before .before .shared-slice-known .given i)) (a .sb4 .0) (a .k) (a .rec)
+    (lines-of _ (a .w4 .0) (a .h4 .0) (a .sb4 .0) (a .k) f (a .ss-ver) (p .ss-ver-le)) _ _ _ (c .before .before .rows-track .ensures)
     (c .before .record-lines .ensures) (c .answer .ensures)
 
 pub rows-record-spec : {M : Type 1} → statement M

@@ -67,8 +67,8 @@ part-requires c κs =
     let f = c .before .before .before .before .before .before .before .before .pre .0 in
     let k = lines-of _ (a .w4 .0) (a .h4 .0) (a .sb4 .0) (a .k) f (a .ss) (omega arith) in (
       rows-fit (a .k * a .sb4 .0 / 32) (records (a .w4 .0)) _ _ (c .before .before .before .before .before .record-row .ensures)
-          (c .before .before .before .before .before .before .records-along .ensures) (a .luma) _ (a .g) _ _
-          (record-in _ (a .w4 .0) (a .h4 .0) (a .sb4 .0) (a .k) f (a .g) (omega arith)) (c .before .before .before .before .record-start .ensures)
+          (c .before .before .before .before .before .before .records-along .ensures) (a .luma) _ (a .rec) _ _
+          (record-in _ (a .w4 .0) (a .h4 .0) (a .sb4 .0) (a .k) f (a .rec) (omega arith)) (c .before .before .before .before .record-start .ensures)
           (omega (arith, k .room, side-le (a .ss) (omega arith), c .before .before .before .first-line .ensures, c .before .chroma-unit .ensures)),
       omega
           (arith, c .before .before .row-units .ensures, c .before .chroma-unit .ensures),
@@ -78,7 +78,7 @@ returns : tie.Need-returns
 returns c =
     let a = c .before .before .before .before .before .before .before .before .before .args in
     let b = record-place (a .k * a .sb4 .0 / 32) (records (a .w4 .0)) _ _ (c .before .before .before .before .before .before .record-row .ensures)
-    (c .before .before .before .before .before .before .before .records-along .ensures) (a .luma) 1 (a .g) _
+    (c .before .before .before .before .before .before .before .records-along .ensures) (a .luma) 1 (a .rec) _
     (c .before .before .before .before .before .record-start .ensures) in
     rows-walked (a .masks .now) (a .luma) _ _ _ _ _ _
     (omega (arith, c .before .before .before .row-units .ensures, c .before .before .chroma-unit .ensures)) (c .before .start .ensures)

@@ -33,7 +33,11 @@ unfolding levelsNumber
 returns-3 c =
     record {
       code =
-          rw (sym (c .before .before .before .before .before .out-of-range .ensures) ∙ c .before .before .before .before .if1 .left, sym (c .before .before .before .layout-ok .ensures) ∙ not-false _ (c .before .before .if2 .left)) refl;
+          rw (
+            sym (c .before .before .before .before .before .out-of-range .ensures)
+                ∙ c .before .before .before .before .if1 .left,
+            sym (c .before .before .before .layout-ok .ensures) ∙ not-false _ (c .before .before .if2 .left),
+          ) refl;
       stored = c .rav1d-calc-lf-values .ensures;
     }
 

@@ -6,7 +6,7 @@ use native.Mathlib.Omega.{arith}
 use borrow.Author.Needs.{needs}
 use lib.ListN.{length, drop}
 use Rattle.loops.specs.Table.{tabulate}
-use Rattle.levels.proofs.Sixteen.{cleared, kinds-again, kinds-done}
+use Rattle.levels.proofs.Sixteen.{cleared, areas-again, areas-done}
 use Rattle.levels.specs.Levels.{levelsIn, byteAt}
 use Rattle.levels.proofs.rav1d_calc_lf_values.Statement.{statement}
 use Rattle.levels.proofs.rav1d_calc_lf_values.Tie as tie
@@ -19,8 +19,8 @@ Inv-loop values₀ base enabled refs modes multi lf segmentation seg n c₀ valu
 abbrev μ-loop : tie.MeasureT-loop
 μ-loop values₀ base enabled refs modes multi lf segmentation seg n c₀ values c = n - c
 
-kinds-requires : tie.Need-kinds-requires Inv-loop μ-loop
-kinds-requires c κs = search needs
+areas-requires : tie.Need-areas-requires Inv-loop μ-loop
+areas-requires c κs = search needs
 
 luma-off-requires : tie.Need-luma-off-requires Inv-loop μ-loop
 luma-off-requires c κs = search needs
@@ -36,14 +36,15 @@ same-length c = search needs
 
 returns : tie.Need-returns Inv-loop μ-loop
 returns c =
-    cleared _ (sym (c .before .before .before .before .before .luma-off .ensures) ∙ c .before .before .before .before .if1 .taken) (c .before .before .before .before .before .before .kinds .result) _ _
-    (c .before .before .before .before .before .before .kinds .ensures .0) (omega arith) (c .before .before .clear .ensures)
+    cleared _ (sym (c .before .before .before .before .before .luma-off .ensures) ∙ c .before .before .before .before .if1 .taken)
+    (c .before .before .before .before .before .before .areas .result) _ _
+    (c .before .before .before .before .before .before .areas .ensures .0) (omega arith) (c .before .before .clear .ensures)
 
 loop-holds : tie.Need-loop-holds Inv-loop μ-loop
 loop-holds c = (omega arith, refl, refl)
 
-calc-kind-requires : tie.Need-calc-kind-requires Inv-loop μ-loop
-calc-kind-requires c κs = (omega arith, omega arith)
+calc-area-requires : tie.Need-calc-area-requires Inv-loop μ-loop
+calc-area-requires c κs = (omega arith, omega arith)
 
 add-c : tie.Need-add-c Inv-loop μ-loop
 add-c c = search needs
@@ -55,8 +56,9 @@ loop-again : tie.Need-loop-again Inv-loop μ-loop
 loop-again c =
     let l = c .before .before .before .before .before .loop in (
       omega arith,
-      c .before .before .calc-kind .kept .0 ∙ l .inv .1,
-      kinds-again _ (sym (c .before .before .before .before .before .before .before .luma-off .ensures) ∙ c .before .before .before .before .before .before .if1 .left) (l .c) _ _ _ (omega arith) (l .inv .2) (c .before .before .calc-kind .ensures),
+      c .before .before .calc-area .kept .0 ∙ l .inv .1,
+      areas-again _ (sym (c .before .before .before .before .before .before .before .luma-off .ensures) ∙ c .before .before .before .before .before .before .if1 .left)
+          (l .c) _ _ _ (omega arith) (l .inv .2) (c .before .before .calc-area .ensures),
     )
 
 same-length-2 : tie.Need-same-length-2 Inv-loop μ-loop
@@ -64,7 +66,7 @@ same-length-2 c = c .before .loop .inv .1
 
 returns-2 : tie.Need-returns-2 Inv-loop μ-loop
 returns-2 c =
-    kinds-done _ (c .before .before .before .before .kinds .result) (c .before .loop .c) _ _ (c .before .before .before .before .kinds .ensures .0) (omega arith) (c .before .loop .inv .2)
+    areas-done _ (c .before .before .before .before .areas .result) (c .before .loop .c) _ _ (c .before .before .before .before .areas .ensures .0) (omega arith) (c .before .loop .inv .2)
 
 pub rav1d-calc-lf-values-spec : {M : Type 1} → statement M
 rav1d-calc-lf-values-spec =
@@ -72,14 +74,14 @@ rav1d-calc-lf-values-spec =
     (tie.spec
     Inv-loop
     μ-loop
-    kinds-requires
+    areas-requires
     luma-off-requires
     mul-clear
     clear-requires
     same-length
     returns
     loop-holds
-    calc-kind-requires
+    calc-area-requires
     add-c
     loop-less
     loop-again

@@ -1,5 +1,5 @@
 -- Two passes over one transform's grid.
-use Rattle.mask_edges.proofs.Asks.{halves, chroma-low, grid-asked, grid-both, context-filled}
+use Rattle.mask_edges.proofs.BlockPasses.{halves, chroma-low, grid-asked, grid-both, context-filled}
 use Rattle.units.proofs.Rules.{tx-rule}
 use Rattle.units.specs.Sizes.{chromaClass}
 use native.Mathlib.Omega.{arith}
@@ -39,8 +39,8 @@ mask-grid-requires c κs =
     let w = tx-rule _ (c₁₀ .pre .1) in
     let k = halves (c₁₀ .args .ss-ver) (c₁₀ .pre .3) in
     let m = halves (c₁₀ .args .ss-hor) (c₁₀ .pre .2) in
-    grid-asked _ true _ 0 _ _ _ _ _ (c₄ .columns .ensures) (omega arith) k (omega (arith, r .wide .1)) (r .high .1) (r .record-words) _ _ _
-    (rw (c .before .chroma-class .ensures) (chroma-low (c₆ .chroma-tx-wide .result .0))) (r .wide .0) (rw (c₆ .chroma-tx-wide .ensures) (w .wide .low))
+    grid-asked _ true _ 0 _ _ _ _ _ (c₄ .columns .ensures) (omega arith) k (omega (arith, r .width .1)) (r .height .1) (r .record-words) _ _ _
+    (rw (c .before .chroma-class .ensures) (chroma-low (c₆ .chroma-tx-wide .result .0))) (r .width .0) (rw (c₆ .chroma-tx-wide .ensures) (w .width .low))
     (r .left-units)
 
 chroma-class-requires-2 : tie.Need-chroma-class-requires-2
@@ -56,9 +56,9 @@ mask-grid-requires-2 c κs =
     let w = tx-rule _ (c₁₈ .pre .1) in
     let k = halves (c₁₈ .args .ss-hor) (c₁₈ .pre .2) in
     let m = halves (c₁₈ .args .ss-ver) (c₁₈ .pre .3) in
-    grid-asked _ true _ 1 _ _ _ _ _ (c₁₁ .rows .ensures) (omega arith) k (omega (arith, r .high .1)) (r .wide .1)
+    grid-asked _ true _ 1 _ _ _ _ _ (c₁₁ .rows .ensures) (omega arith) k (omega (arith, r .height .1)) (r .width .1)
     (rw (c₇ .mask-grid .kept .0) (r .record-words)) _ _ _
-    (rw (c .before .chroma-class2 .ensures) (chroma-low (c₁₃ .chroma-tx-high .result .0))) (r .high .0) (rw (c₁₃ .chroma-tx-high .ensures) (w .high .low))
+    (rw (c .before .chroma-class2 .ensures) (chroma-low (c₁₃ .chroma-tx-high .result .0))) (r .height .0) (rw (c₁₃ .chroma-tx-high .ensures) (w .height .low))
     (r .above-units)
 
 same-length : tie.Need-same-length

@@ -1,6 +1,6 @@
 -- Two passes over the cells that the split fills; or, where nothing is split, the block of one transform, which is recorded the same.
-use Rattle.mask_edges.proofs.Asks.{cells-asked, cells-both, context-taken}
-use Rattle.mask_edges.proofs.Tells.{from-zeros, told-columns, told-rows}
+use Rattle.mask_edges.proofs.BlockPasses.{cells-asked, cells-both, context-taken}
+use Rattle.mask_edges.proofs.CellTables.{from-zeros, told-columns, told-rows}
 use Rattle.mask_edges.proofs.Whole.{whole-at, whole-masks, whole-above, whole-left}
 use Rattle.mask_edges.specs.Folds.{stores}
 use Rattle.units.proofs.Rules.{tx-rule}
@@ -29,7 +29,7 @@ one-transform-requires : tie.Need-one-transform-requires
 one-transform-requires c κs =
     let p = c .before .before .before .before .before .before .before .before .before .before .pre in
     let w = tx-rule _ (p .1 .code) in
-    (p .0, rw (c .before .before .before .before .before .before .luma-tx-wide .ensures) (w .wide .low), rw (c .before .before .before .before .before .luma-tx-high .ensures) (w .high .low))
+    (p .0, rw (c .before .before .before .before .before .before .luma-tx-wide .ensures) (w .width .low), rw (c .before .before .before .before .before .luma-tx-high .ensures) (w .height .low))
 
 same-length : tie.Need-same-length
 same-length c = search needs
@@ -50,7 +50,8 @@ returns c =
     let p = c₁₆ .before .pre in
     let w = c₁₁ .before .before .luma-tx-wide .ensures in
     let h = c₁₁ .before .luma-tx-high .ensures in
-    let s = whole-at (g .max-tx) (g .w4 .0) (g .h4 .0) _ _ (getD (now (g .tx-masks)) 0 0) _ (c₁₁ .is-whole .ensures) w h (c .before .before .before .before .before .before .before .before .before .before .if1 .taken) in
+    let s = whole-at (g .max-tx) (g .w4 .0) (g .h4 .0) _ _ (getD (now (g .tx-masks)) 0 0) _ (c₁₁ .is-whole .ensures) w h
+    (c .before .before .before .before .before .before .before .before .before .before .if1 .taken) in
     let E = c₆ .one-transform .ensures in (
       E .0 _ w h ∙ whole-masks (now (g .tx-masks)) (g .max-tx) (g .w4 .0) (g .h4 .0) s (g .by4 .0) (g .bx4 .0) (g .skip) (now (g .a)) (now (g .l)) (now (g .masks)) (p .0)
           (p .1) (λ i. omega (arith, c₁₆ .slice-known .given i)),
@@ -86,9 +87,9 @@ mask-cells-requires c κs =
     let c₁₅ = c₆ .before .before .before .before .before .before .before .before .before in
     let r = c₁₅ .pre .0 in
     let g = c₁₅ .args in
-    cells-asked _ false 16 0 _ _ _ _ _ (c₄ .columns .ensures) (omega arith) (omega arith, omega arith) (r .wide .1) (r .high .1) (r .record-words) _ _
+    cells-asked _ false 16 0 _ _ _ _ _ (c₄ .columns .ensures) (omega arith) (omega arith, omega arith) (r .width .1) (r .height .1) (r .record-words) _ _
     (told-columns (g .by4 .0) (g .bx4 .0) _ _ _ (g .skip) (now (g .tx-masks)) (now (g .a)) (now (g .l)) (c₁₅ .pre .1) _ _
-    (from-zeros _ _ _ _ _ (c₆ .decomp-block .ensures)) (c₄ .columns .ensures)) (r .wide .0) (r .left-units)
+    (from-zeros _ _ _ _ _ (c₆ .decomp-block .ensures)) (c₄ .columns .ensures)) (r .width .0) (r .left-units)
 
 slice-aggregate-mask-cells-2 : tie.Need-slice-aggregate-mask-cells-2
 slice-aggregate-mask-cells-2 c = search needs
@@ -101,10 +102,10 @@ mask-cells-requires-2 c κs =
     let c₂₃ = c₁₄ .before .before .before .before .before .before .before .before .before in
     let r = c₂₃ .pre .0 in
     let g = c₂₃ .args in
-    cells-asked _ false 16 1 _ _ _ _ _ (c₁₁ .rows .ensures) (omega arith) (omega arith, omega arith) (r .high .1) (r .wide .1)
+    cells-asked _ false 16 1 _ _ _ _ _ (c₁₁ .rows .ensures) (omega arith) (omega arith, omega arith) (r .height .1) (r .width .1)
     (rw (c₇ .mask-cells .kept .0) (r .record-words)) _ _
     (told-rows (g .by4 .0) (g .bx4 .0) _ _ _ (g .skip) (now (g .tx-masks)) (now (g .a)) (now (g .l)) (c₂₃ .pre .1) _ _
-    (from-zeros _ _ _ _ _ (c₁₄ .decomp-block .ensures)) (c₁₁ .rows .ensures)) (r .high .0) (r .above-units)
+    (from-zeros _ _ _ _ _ (c₁₄ .decomp-block .ensures)) (c₁₁ .rows .ensures)) (r .height .0) (r .above-units)
 
 same-length-4 : tie.Need-same-length-4
 same-length-4 c = search needs

@@ -15,7 +15,7 @@ one-transform-requires : tie.Need-one-transform-requires
 one-transform-requires c κs =
     let p = c .before .before .before .before .before .before .before .before .pre in
     let w = tx-rule _ (p .1) in
-    (p .0, rw (c .before .before .before .before .luma-tx-wide .ensures) (w .wide .low), rw (c .before .before .before .luma-tx-high .ensures) (w .high .low))
+    (p .0, rw (c .before .before .before .before .luma-tx-wide .ensures) (w .width .low), rw (c .before .before .before .luma-tx-high .ensures) (w .height .low))
 
 same-length : tie.Need-same-length
 same-length c = search needs

@@ -1,6 +1,6 @@
 -- Two passes over one transform's grid.
 use mathlib.Core.Bool.{false}
-use Rattle.mask_edges.proofs.Asks.{grid-asked, grid-both, context-filled}
+use Rattle.mask_edges.proofs.BlockPasses.{grid-asked, grid-both, context-filled}
 use Rattle.units.specs.Sizes.{lumaClass}
 use native.Mathlib.Omega.{arith}
 use mathlib.Core.Path.{refl}
@@ -21,8 +21,8 @@ mask-grid-requires : tie.Need-mask-grid-requires
 mask-grid-requires c κs =
     let c₈ = c .before .before .before .before .before .before .before .before in
     let r = c₈ .pre .0 in
-    grid-asked _ false 16 0 _ _ _ _ _ (c .before .before .before .before .columns .ensures) (omega arith) (omega arith, omega arith) (r .wide .1) (r .high .1) (r .record-words) _ _ _
-    (omega (arith, c .before .luma-class .ensures)) (r .wide .0) (c₈ .pre .1) (r .left-units)
+    grid-asked _ false 16 0 _ _ _ _ _ (c .before .before .before .before .columns .ensures) (omega arith) (omega arith, omega arith) (r .width .1) (r .height .1) (r .record-words) _ _ _
+    (omega (arith, c .before .luma-class .ensures)) (r .width .0) (c₈ .pre .1) (r .left-units)
 
 luma-class-requires-2 : tie.Need-luma-class-requires-2
 luma-class-requires-2 c κs = search needs
@@ -33,9 +33,9 @@ mask-grid-requires-2 c κs =
     let c₁₁ = c₇ .before .before .before .before in
     let c₁₆ = c₁₁ .before .before .before .before .before in
     let r = c₁₆ .pre .0 in
-    grid-asked _ false 16 1 _ _ _ _ _ (c₁₁ .rows .ensures) (omega arith) (omega arith, omega arith) (r .high .1) (r .wide .1)
+    grid-asked _ false 16 1 _ _ _ _ _ (c₁₁ .rows .ensures) (omega arith) (omega arith, omega arith) (r .height .1) (r .width .1)
     (rw (c₇ .mask-grid .kept .0) (r .record-words)) _ _ _
-    (omega (arith, c .before .luma-class2 .ensures)) (r .high .0) (c₁₆ .pre .2) (r .above-units)
+    (omega (arith, c .before .luma-class2 .ensures)) (r .height .0) (c₁₆ .pre .2) (r .above-units)
 
 same-length : tie.Need-same-length
 same-length c = search needs

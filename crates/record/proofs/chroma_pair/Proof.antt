@@ -8,8 +8,8 @@ use native.Mathlib.Nat.{le-of-eq}
 use lib.ListN.{length}
 use lib.Seq.{length-take-le}
 use Rattle.block.specs.Block.{cbw4, cbh4, seesChroma}
-use Rattle.block.proofs.Passed.{seen-as, and-on}
-use Rattle.record.proofs.Nears.{chroma-near, context-put}
+use Rattle.block.proofs.TestsPassed.{seen-as, and-on}
+use Rattle.record.proofs.NearBlocks.{chroma-near, context-put}
 use borrow.Author.Needs.{needs}
 use Rattle.record.proofs.chroma_pair.Statement.{statement}
 use Rattle.record.proofs.chroma_pair.Tie as tie
@@ -21,8 +21,10 @@ sees d =
     and-on (b .chroma) _ (not-false _ (d .before .before .before .before .if1 .left)) (sym s ∙ not-false _ (d .if2 .left))
 
 room : (d : tie.Else2)
-    → (d .before .before .before .chroma-wide .result .0 ≤ length (now (d .before .before .before .before .before .before .before .before .before .before .args .above))) × (d .before .before .chroma-high .result .0 ≤ length (now (d .before .before .before .before .before .before .before .before .before .before .args .left)))
-room d = let n = d .before .before .before .before .before .before .before .before .before .before .pre .4 (sees d) in (rw (d .before .before .before .chroma-wide .ensures) (n .0), rw (d .before .before .chroma-high .ensures) (n .1))
+    → (d .before .before .before .chroma-wide .result .0 ≤ length (now (d .before .before .before .before .before .before .before .before .before .before .args .above)))
+    × (d .before .before .chroma-high .result .0 ≤ length (now (d .before .before .before .before .before .before .before .before .before .before .args .left)))
+room d = let n = d .before .before .before .before .before .before .before .before .before .before .pre .4 (sees d) in
+    (rw (d .before .before .before .chroma-wide .ensures) (n .0), rw (d .before .before .chroma-high .ensures) (n .1))
 
 returns : tie.Need-returns
 returns c = rw (not-true (c .before .before .before .before .before .before .args .b .chroma) (c .if1 .taken)) (refl, (refl, (refl, refl)))
@@ -52,13 +54,19 @@ slice-relend-prefix-chroma-masks : tie.Need-slice-relend-prefix-chroma-masks
 slice-relend-prefix-chroma-masks c = room (c .before .before .before .before .before) .0
 
 slice-aggregate-chroma-masks : tie.Need-slice-aggregate-chroma-masks
-slice-aggregate-chroma-masks c = sym (length-take-le _ (now (c .before .before .before .before .before .before .before .before .before .before .before .before .before .before .before .before .args .above)) (room (c .before .before .before .before .before .before) .0))
+slice-aggregate-chroma-masks c =
+    let c₆ = c .before .before .before .before .before .before in
+    let c₁₆ = c₆ .before .before .before .before .before .before .before .before .before .before in
+    sym (length-take-le _ (now (c₁₆ .args .above)) (room (c₆) .0))
 
 slice-relend-prefix-chroma-masks-2 : tie.Need-slice-relend-prefix-chroma-masks-2
 slice-relend-prefix-chroma-masks-2 c = room (c .before .before .before .before .before .before) .1
 
 slice-aggregate-chroma-masks-2 : tie.Need-slice-aggregate-chroma-masks-2
-slice-aggregate-chroma-masks-2 c = sym (length-take-le _ (now (c .before .before .before .before .before .before .before .before .before .before .before .before .before .before .before .before .before .args .left)) (room (c .before .before .before .before .before .before .before) .1))
+slice-aggregate-chroma-masks-2 c =
+    let c₇ = c .before .before .before .before .before .before .before in
+    let c₁₇ = c₇ .before .before .before .before .before .before .before .before .before .before in
+    sym (length-take-le _ (now (c₁₇ .args .left)) (room (c₇) .1))
 
 chroma-masks-requires : tie.Need-chroma-masks-requires
 chroma-masks-requires c κs =
@@ -90,13 +98,15 @@ same-length-4 c = search needs
 
 returns-3 : tie.Need-returns-3
 returns-3 c =
+    let c₆ = c .before .before .before .before .before .before in
+    let c₁₂ = c₆ .before .before .before .before .before .before in
     let d = c .before .before .before .before .before .before .before .before .before .before .before .before .before .before in
     let a = d .before .before .before .before .before .before .before .before .before .before .args in
     let n = d .before .before .before .before .before .before .before .before .before .before .pre .4 (sees d) in
     let w = d .before .before .before .chroma-wide .ensures in
     let h = d .before .before .chroma-high .ensures in
-    let e = c .before .before .before .before .before .before .chroma-masks .ensures in (
-      c .before .before .before .before .before .before .before .before .before .before .before .before .chroma-levels .ensures,
+    let e = c₆ .chroma-masks .ensures in (
+      c₁₂ .chroma-levels .ensures,
       (
         e .0 ∙ chroma-near (a .b) _ _ (now (a .above)) (now (a .left)) (now (a .masks)) w h,
         (context-put (seesChroma (a .b)) _ _ _ (now (a .above)) w (n .0) (e .1 .0), context-put (seesChroma (a .b)) _ _ _ (now (a .left)) h (n .1) (e .1 .1)),

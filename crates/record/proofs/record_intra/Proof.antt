@@ -4,7 +4,7 @@ use borrow.Author.Tests.{ne-eqb}
 use borrow.Author.Needs.{needs}
 use native.Mathlib.Omega.{arith}
 use mathlib.Core.Path.{_≡_, refl, sym, ap, _∙_}
-use Rattle.record.proofs.Sounds.{sound, levels-long, masks-long, luma-long, chroma-long}
+use Rattle.record.proofs.SoundBlocks.{sound, levels-long, masks-long, luma-long, chroma-long}
 use Rattle.record.specs.Record.{intraOf, chromaLevels, chromaMasks}
 use Rattle.block.specs.Tests.{number}
 use Rattle.block.specs.Block.{lent}
@@ -44,8 +44,13 @@ intra-luma-requires c κs =
     let g = c₁₈ .args in
     let b = intraOf (g .width) (g .height) (g .layout) (g .x) (g .y) (g .size) (g .tx) (g .chroma) (g .uvtx) in
     let m = lent (now (g .levels)) (now (g .masks)) (now (g .above)) (now (g .left)) (now (g .above-uv)) (now (g .left-uv)) in
-    let e : number b (g .stride) m ≡ 0 = sym (c₅ .number .ensures) ∙ c₄ .if1 .left in
-    (sound b (g .stride) m e (omega arith) (omega arith), levels-long b (g .stride) m e .0, levels-long b (g .stride) m e .1, masks-long b (g .stride) m e, luma-long b (g .stride) m e)
+    let e : number b (g .level-stride) m ≡ 0 = sym (c₅ .number .ensures) ∙ c₄ .if1 .left in (
+      sound b (g .level-stride) m e (omega arith) (omega arith),
+      levels-long b (g .level-stride) m e .0,
+      levels-long b (g .level-stride) m e .1,
+      masks-long b (g .level-stride) m e,
+      luma-long b (g .level-stride) m e,
+    )
 
 chroma-pair-requires : tie.Need-chroma-pair-requires
 chroma-pair-requires c κs =
@@ -56,9 +61,14 @@ chroma-pair-requires c κs =
     let g = c₃₁ .args in
     let b = intraOf (g .width) (g .height) (g .layout) (g .x) (g .y) (g .size) (g .tx) (g .chroma) (g .uvtx) in
     let m = lent (now (g .levels)) (now (g .masks)) (now (g .above)) (now (g .left)) (now (g .above-uv)) (now (g .left-uv)) in
-    let e : number b (g .stride) m ≡ 0 = sym (c₁₈ .number .ensures) ∙ c₁₇ .if1 .left in
-    let k = c₁₂ .intra-luma .kept in
-    (sound b (g .stride) m e (omega arith) (omega arith), levels-long b (g .stride) m e .0, omega (arith, k, levels-long b (g .stride) m e .1), omega (arith, k, masks-long b (g .stride) m e), chroma-long b (g .stride) m e)
+    let e : number b (g .level-stride) m ≡ 0 = sym (c₁₈ .number .ensures) ∙ c₁₇ .if1 .left in
+    let k = c₁₂ .intra-luma .kept in (
+      sound b (g .level-stride) m e (omega arith) (omega arith),
+      levels-long b (g .level-stride) m e .0,
+      omega (arith, k, levels-long b (g .level-stride) m e .1),
+      omega (arith, k, masks-long b (g .level-stride) m e),
+      chroma-long b (g .level-stride) m e,
+    )
 
 same-length-7 : tie.Need-same-length-7
 same-length-7 c = search needs
@@ -92,7 +102,7 @@ returns-2 c =
     let q = c₈ .chroma-pair .ensures in
     record {
       code = sym (c₂₆ .if1 .left) ∙ c₂₇ .number .ensures;
-      levels = q .0 ∙ ap (chromaLevels b (g .stride) (now (g .values))) (p .0);
+      levels = q .0 ∙ ap (chromaLevels b (g .level-stride) (now (g .values))) (p .0);
       masks = q .1 .0 ∙ ap (chromaMasks b (now (g .above-uv)) (now (g .left-uv))) (p .1 .0);
       above = p .1 .1 .0;
       left = p .1 .1 .1;

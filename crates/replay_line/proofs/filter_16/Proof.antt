@@ -13,7 +13,7 @@ mul-q c = search needs
 piece-16-requires : tie.Need-piece-16-requires
 piece-16-requires c κs =
     let a = c .before .before .args in
-    let p = c .before .before .pre in (four, omega arith, omega arith, omega arith, omega arith, piece-below (a .t .half) 2 (a .sa) (a .st) (7 * a .st) (p .0) (p .2))
+    let p = c .before .before .pre in (four, omega arith, omega arith, omega arith, omega arith, piece-below (a .t .half) 2 (a .line-step) (a .sample-step) (7 * a .sample-step) (p .0) (p .2))
 
 returns : tie.Need-returns
 returns c = search needs
@@ -21,7 +21,7 @@ returns c = search needs
 piece-16-requires-2 : tie.Need-piece-16-requires-2
 piece-16-requires-2 c κs =
     let a = c .before .before .before .args in
-    let p = c .before .before .before .pre in (six, omega arith, omega arith, omega arith, omega arith, piece-below (a .t .half) 3 (a .sa) (a .st) (7 * a .st) (p .0) (p .2))
+    let p = c .before .before .before .pre in (six, omega arith, omega arith, omega arith, omega arith, piece-below (a .t .half) 3 (a .line-step) (a .sample-step) (7 * a .sample-step) (p .0) (p .2))
 
 returns-2 : tie.Need-returns-2
 returns-2 c = search needs
@@ -29,7 +29,14 @@ returns-2 c = search needs
 piece-16-requires-3 : tie.Need-piece-16-requires-3
 piece-16-requires-3 c κs =
     let a = c .before .before .before .before .args in
-    let p = c .before .before .before .before .pre in (eight, omega arith, omega arith, omega arith, omega arith, piece-below (a .t .half) 4 (a .sa) (a .st) (7 * a .st) (p .0) (p .2))
+    let p = c .before .before .before .before .pre in (
+      eight,
+      omega arith,
+      omega arith,
+      omega arith,
+      omega arith,
+      piece-below (a .t .half) 4 (a .line-step) (a .sample-step) (7 * a .sample-step) (p .0) (p .2),
+    )
 
 returns-3 : tie.Need-returns-3
 returns-3 c = search needs
@@ -37,7 +44,14 @@ returns-3 c = search needs
 piece-16-requires-4 : tie.Need-piece-16-requires-4
 piece-16-requires-4 c κs =
     let a = c .before .before .before .before .args in
-    let p = c .before .before .before .before .pre in (sixteen, omega arith, omega arith, omega arith, omega arith, piece-below (a .t .half) 7 (a .sa) (a .st) (7 * a .st) (p .0) (p .2))
+    let p = c .before .before .before .before .pre in (
+      sixteen,
+      omega arith,
+      omega arith,
+      omega arith,
+      omega arith,
+      piece-below (a .t .half) 7 (a .line-step) (a .sample-step) (7 * a .sample-step) (p .0) (p .2),
+    )
 
 returns-4 : tie.Need-returns-4
 returns-4 c = search needs

@@ -1,5 +1,5 @@
 -- `promised` meets its contract: the promises are proved in Told.
-use Rattle.scans.proofs.Told.{promises}
+use Rattle.scans.proofs.NumbersMean.{promises}
 use Rattle.scans.proofs.promised.Statement.{statement}
 use Rattle.scans.proofs.promised.Tie as tie
 

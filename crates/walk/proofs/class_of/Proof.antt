@@ -1,6 +1,6 @@
 -- The class of the bit xy: each test is one of a mask's bit.
 use mathlib.Core.Path.{refl}
-use Rattle.walk.proofs.Leaves.{has, lacks}
+use Rattle.walk.proofs.WidthsThresholds.{has, lacks}
 use Rattle.walk.proofs.class_of.Statement.{statement}
 use Rattle.walk.proofs.class_of.Tie as tie
 

@@ -3,7 +3,7 @@ use mathlib.Core.Path.{_∙_}
 use native.Mathlib.Nat.{one-mul}
 use borrow.Author.Needs.{needs}
 use Rattle.walk.specs.Walk.{thresholds}
-use Rattle.walk.proofs.Leaves.{by-fields}
+use Rattle.walk.proofs.WidthsThresholds.{by-fields}
 use Rattle.walk.proofs.thresholds_of.Statement.{statement}
 use Rattle.walk.proofs.thresholds_of.Tie as tie
 

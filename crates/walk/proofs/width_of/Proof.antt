@@ -1,6 +1,6 @@
 -- The width of a class, by the code's tests.
 use borrow.Author.Needs.{needs}
-use Rattle.walk.proofs.Leaves.{len-4, len-6, len-16}
+use Rattle.walk.proofs.WidthsThresholds.{len-4, len-6, len-16}
 use Rattle.walk.proofs.width_of.Statement.{statement}
 use Rattle.walk.proofs.width_of.Tie as tie
 

@@ -25,13 +25,19 @@ add-clear-bit-2 : tie.Need-add-clear-bit-2
 add-clear-bit-2 c = search needs
 
 clear-bit-requires-3 : tie.Need-clear-bit-requires-3
-clear-bit-requires-3 c κs = let f = c .before .before .before .before .before .before .before .before .before .before .before .pre .four (not-false _ (c .before .if1 .left)) in omega arith
+clear-bit-requires-3 c κs =
+    let c₁₁ = c .before .before .before .before .before .before .before .before .before .before .before in
+    let f = c₁₁ .pre .four (not-false _ (c .before .if1 .left)) in omega arith
 
 same-length-2 : tie.Need-same-length-2
 same-length-2 c = search needs
 
 returns-2 : tie.Need-returns-2
-returns-2 c = clear-luma _ _ _ _ _ (c .before .before .before .before .before .before .before .before .before .before .before .clear-bit .ensures) (c .before .before .before .before .before .before .before .clear-bit2 .ensures) _ (not-false _ (c .before .before .before .before .if1 .left)) (c .before .before .clear-bit3 .ensures)
+returns-2 c =
+    let c₄ = c .before .before .before .before in
+    let c₇ = c₄ .before .before .before in
+    let c₁₁ = c₇ .before .before .before .before in
+    clear-luma _ _ _ _ _ (c₁₁ .clear-bit .ensures) (c₇ .clear-bit2 .ensures) _ (not-false _ (c₄ .if1 .left)) (c .before .before .clear-bit3 .ensures)
 
 pub clear-edge-spec : {M : Type 1} → statement M
 clear-edge-spec =

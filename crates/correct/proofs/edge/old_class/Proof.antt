@@ -33,7 +33,9 @@ add-result : tie.Need-add-result
 add-result c = omega (arith, flag-le (c .test-bit2 .result), flag-le (c .before .before .test-bit .result))
 
 returns : tie.Need-returns
-returns c = old-luma _ (λ k. isSet (now (c .before .before .before .before .args .masks)) (c .before .before .before .before .args .e + 32 * k)) _ _ (c .before .if1 .taken) (c .before .before .test-bit .ensures) (c .test-bit2 .ensures)
+returns c =
+    old-luma _ (λ k. isSet (now (c .before .before .before .before .args .masks)) (c .before .before .before .before .args .e + 32 * k)) _ _ (c .before .if1 .taken)
+    (c .before .before .test-bit .ensures) (c .test-bit2 .ensures)
 
 returns-2 : tie.Need-returns-2
 returns-2 c = old-chroma _ (λ k. isSet (now (c .before .before .before .args .masks)) (c .before .before .before .args .e + 32 * k)) _ (c .if1 .left) (c .before .test-bit .ensures)

@@ -3,7 +3,7 @@ use mathlib.Core.Path.{ap}
 use Prim.Native.Nat.{_*_}
 use native.Mathlib.Omega.{arith}
 use borrow.Author.Needs.{needs}
-use Rattle.correct.proofs.Places.{proper, first-row, first-column}
+use Rattle.correct.proofs.Starts.{proper, first-row, first-column}
 use Rattle.correct.proofs.place.first.Statement.{statement}
 use Rattle.correct.proofs.place.first.Tie as tie
 
@@ -14,16 +14,24 @@ superblock-units-requires : tie.Need-superblock-units-requires
 superblock-units-requires c κs = search needs
 
 mul-chroma-unit : tie.Need-mul-chroma-unit
-mul-chroma-unit c = omega (arith, c .before .before .before .before .pre .row-in, c .before .before .before .before .pre .high, ap (λ s. c .before .before .before .before .args .t .row * s) (c .before .before .superblock-units .ensures))
+mul-chroma-unit c =
+    omega (
+      arith,
+      c .before .before .before .before .pre .row-in,
+      c .before .before .before .before .pre .height,
+      ap (λ s. c .before .before .before .before .args .t .row * s) (c .before .before .superblock-units .ensures),
+    )
 
 ver-requires : tie.Need-ver-requires
 ver-requires c κs = search needs
 
 chroma-unit-requires : tie.Need-chroma-unit-requires
-chroma-unit-requires c κs = omega (arith, c .ver .ensures, proper (c .before .before .before .before .before .args .t) (c .before .before .before .before .before .args .luma) .ssy-le)
+chroma-unit-requires c κs = omega (arith, c .ver .ensures, proper (c .before .before .before .before .before .args .t) (c .before .before .before .before .before .args .luma) .ss-ver-le)
 
 returns-2 : tie.Need-returns-2
-returns-2 c = first-column (c .before .before .before .before .before .before .args .t) (c .before .before .before .before .before .before .args .luma) _ _ _ (c .before .before .before .before .before .if1 .left) (c .before .ver .ensures) (c .before .before .before .before .superblock-units .ensures) (c .chroma-unit .ensures)
+returns-2 c =
+    first-column (c .before .before .before .before .before .before .args .t) (c .before .before .before .before .before .before .args .luma) _ _ _
+    (c .before .before .before .before .before .if1 .left) (c .before .ver .ensures) (c .before .before .before .before .superblock-units .ensures) (c .chroma-unit .ensures)
 
 pub first-spec : {M : Type 1} → statement M
 first-spec =

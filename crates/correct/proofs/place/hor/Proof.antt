@@ -1,7 +1,7 @@
 -- `hor` meets its contract, by the kind of plane.
 use mathlib.Core.Path.{refl}
 use borrow.Author.Needs.{needs}
-use Rattle.correct.proofs.Places.{kind-ss}
+use Rattle.correct.proofs.Starts.{kind-ss}
 use Rattle.correct.proofs.place.hor.Statement.{statement}
 use Rattle.correct.proofs.place.hor.Tie as tie
 

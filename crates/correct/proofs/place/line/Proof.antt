@@ -2,7 +2,7 @@
 use mathlib.Core.Path.{refl}
 use native.Mathlib.Omega.{arith}
 use borrow.Author.Needs.{needs}
-use Rattle.correct.proofs.Places.{first-le}
+use Rattle.correct.proofs.Starts.{first-le}
 use Rattle.correct.proofs.place.line.Statement.{statement}
 use Rattle.correct.proofs.place.line.Tie as tie
 
@@ -31,7 +31,16 @@ across-requires : tie.Need-across-requires
 across-requires c κs = search needs
 
 returns : tie.Need-returns
-returns c = rw (c .across .ensures, c .before .luma-units2 .ensures, c .before .before .luma-units .ensures, c .before .before .before .ver .ensures, c .before .before .before .before .hor .ensures, c .before .before .before .before .before .end .ensures, c .before .before .before .before .before .before .first .ensures) refl
+returns c =
+    rw (
+      c .across .ensures,
+      c .before .luma-units2 .ensures,
+      c .before .before .luma-units .ensures,
+      c .before .before .before .ver .ensures,
+      c .before .before .before .before .hor .ensures,
+      c .before .before .before .before .before .end .ensures,
+      c .before .before .before .before .before .before .first .ensures,
+    ) refl
 
 pub line-spec : {M : Type 1} → statement M
 line-spec =

@@ -1,7 +1,7 @@
 -- `ver` meets its contract, by the kind of plane.
 use mathlib.Core.Path.{refl}
 use borrow.Author.Needs.{needs}
-use Rattle.correct.proofs.Places.{kind-ss}
+use Rattle.correct.proofs.Starts.{kind-ss}
 use Rattle.correct.proofs.place.ver.Statement.{statement}
 use Rattle.correct.proofs.place.ver.Tie as tie
 

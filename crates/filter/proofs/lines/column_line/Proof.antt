@@ -4,13 +4,13 @@ use mathlib.Core.Path.{refl, ap}
 use Prim.Native.Nat.{ℕ, _+_}
 use Rattle.plane.specs.Line.{columns}
 use Rattle.units.proofs.Places.{side-le}
-use Rattle.filter.proofs.Leaves.{near, mask-is, class-asks, line-make}
+use Rattle.filter.proofs.LineWords.{near, mask-is, class-asks, line-make}
 use borrow.Author.Needs.{needs}
 use Rattle.filter.proofs.lines.column_line.Statement.{statement}
 use Rattle.filter.proofs.lines.column_line.Tie as tie
 
-group-left-requires : tie.Need-group-left-requires
-group-left-requires c κs = search needs
+record-left-requires : tie.Need-record-left-requires
+record-left-requires c κs = search needs
 
 add-x : tie.Need-add-x
 add-x c = search needs
@@ -19,7 +19,7 @@ row-top-requires : tie.Need-row-top-requires
 row-top-requires c κs = search needs
 
 mask-at-requires : tie.Need-mask-at-requires
-mask-at-requires c κs = omega (arith, side-le (c .before .before .before .before .args .c .ssx) (c .before .before .before .before .pre .proper .ssx-le))
+mask-at-requires c κs = omega (arith, side-le (c .before .before .before .before .args .c .«ss_hor») (c .before .before .before .before .pre .proper .ss-hor-le))
 
 mul-first : tie.Need-mul-first
 mul-first c = search needs
@@ -28,31 +28,62 @@ half-units-requires : tie.Need-half-units-requires
 half-units-requires c κs = search needs
 
 sample-at-requires : tie.Need-sample-at-requires
-sample-at-requires c κs = let t = c .before .before .before .before .before .before .before .before in rw (c .before .before .before .before .row-top .ensures, c .before .before .before .before .before .group-left .ensures) (c .before .before .before .before .before .before .before .before .pre .sample, near (t .args .c) columns (t .args .k) (t .args .g) (t .args .a) _ (t .pre) .0, near (t .args .c) columns (t .args .k) (t .args .g) (t .args .a) _ (t .pre) .1)
+sample-at-requires c κs = let t = c .before .before .before .before .before .before .before .before in
+    rw (c .before .before .before .before .row-top .ensures, c .before .before .before .before .before .record-left .ensures) (
+      c .before .before .before .before .before .before .before .before .pre .sample,
+      near (t .args .c) columns (t .args .k) (t .args .rec) (t .args .a) _ (t .pre) .0,
+      near (t .args .c) columns (t .args .k) (t .args .rec) (t .args .a) _ (t .pre) .1,
+    )
 
 class-at-requires : tie.Need-class-at-requires
-class-at-requires c κs = let t = c .before .before .before .before .before .before .before .before .before in class-asks (t .args .c) columns (t .args .k) (t .args .g) (t .args .a) _ (t .pre) _ _ _ 0 (mask-is (t .args .c) columns (t .args .k) (t .args .g) (t .args .a) _ _ refl (c .before .before .before .before .mask-at .ensures)) refl (c .before .half-units .ensures) (omega arith)
+class-at-requires c κs = let t = c .before .before .before .before .before .before .before .before .before in
+    class-asks (t .args .c) columns (t .args .k) (t .args .rec) (t .args .a) _ (t .pre) _ _ _ 0
+    (mask-is (t .args .c) columns (t .args .k) (t .args .rec) (t .args .a) _ _ refl (c .before .before .before .before .mask-at .ensures)) refl
+    (c .before .half-units .ensures) (omega arith)
 
 class-at-requires-2 : tie.Need-class-at-requires-2
-class-at-requires-2 c κs = let t = c .before .before .before .before .before .before .before .before .before .before in class-asks (t .args .c) columns (t .args .k) (t .args .g) (t .args .a) _ (t .pre) _ _ _ 1 (mask-is (t .args .c) columns (t .args .k) (t .args .g) (t .args .a) _ _ refl (c .before .before .before .before .before .mask-at .ensures)) refl (c .before .before .half-units .ensures) (omega arith)
+class-at-requires-2 c κs = let t = c .before .before .before .before .before .before .before .before .before .before in
+    class-asks (t .args .c) columns (t .args .k) (t .args .rec) (t .args .a) _ (t .pre) _ _ _ 1
+    (mask-is (t .args .c) columns (t .args .k) (t .args .rec) (t .args .a) _ _ refl (c .before .before .before .before .before .mask-at .ensures)) refl
+    (c .before .before .half-units .ensures) (omega arith)
 
 class-at-requires-3 : tie.Need-class-at-requires-3
-class-at-requires-3 c κs = let t = c .before .before .before .before .before .before .before .before .before .before .before in class-asks (t .args .c) columns (t .args .k) (t .args .g) (t .args .a) _ (t .pre) _ _ _ 2 (mask-is (t .args .c) columns (t .args .k) (t .args .g) (t .args .a) _ _ refl (c .before .before .before .before .before .before .mask-at .ensures)) refl (c .before .before .before .half-units .ensures) (omega arith)
+class-at-requires-3 c κs = let t = c .before .before .before .before .before .before .before .before .before .before .before in
+    class-asks (t .args .c) columns (t .args .k) (t .args .rec) (t .args .a) _ (t .pre) _ _ _ 2
+    (mask-is (t .args .c) columns (t .args .k) (t .args .rec) (t .args .a) _ _ refl (c .before .before .before .before .before .before .mask-at .ensures)) refl
+    (c .before .before .before .half-units .ensures) (omega arith)
 
 level-of-requires : tie.Need-level-of-requires
-level-of-requires c κs = (omega arith, c .before .before .before .before .before .before .before .before .before .before .before .before .pre .plane, rw (c .before .before .before .before .before .before .before .before .row-top .ensures, c .before .before .before .before .before .before .before .before .before .group-left .ensures) (c .before .before .before .before .before .before .before .before .before .before .before .before .pre .level))
+level-of-requires c κs =
+    let c₈ = c .before .before .before .before .before .before .before .before in
+    let c₉ = c₈ .before in
+    let c₁₂ = c₉ .before .before .before in
+    (omega arith, c₁₂ .pre .plane, rw (c₈ .row-top .ensures, c₉ .record-left .ensures) (c₁₂ .pre .level))
 
 mul-t19 : tie.Need-mul-t19
-mul-t19 c = record { fits = c .before .before .before .before .before .before .before .before .before .before .before .before .before .before .pre .pitch }
+mul-t19 c =
+    let c₁₄ = c .before .before .before .before .before .before .before .before .before .before .before .before .before .before in
+    record { fits = c₁₄ .pre .«level_stride» }
 
 returns : tie.Need-returns
-returns c = let t = c .before .before .before .before .before .before .before .before .before .before .before .before .before .before in line-make (t .args .c) columns (t .args .k) (t .args .g) (t .args .a) (t .args .masks .now) _ _ _ _ _ _ (ap (λ (x : ℕ). x + t .args .a) (c .before .before .before .before .before .before .before .before .before .before .before .group-left .ensures)) (c .before .before .before .before .before .before .before .before .before .before .row-top .ensures) (mask-is (t .args .c) columns (t .args .k) (t .args .g) (t .args .a) _ _ refl (c .before .before .before .before .before .before .before .before .before .mask-at .ensures)) refl refl (c .before .before .before .before .before .before .half-units .ensures) _ _ _ _ _ (c .before .before .before .before .before .sample-at .ensures) (c .before .before .before .before .class-at .ensures) (c .before .before .before .class-at2 .ensures) (c .before .before .class-at3 .ensures) (c .before .level-of .ensures)
+returns c =
+    let c₄ = c .before .before .before .before in
+    let c₅ = c₄ .before in
+    let c₆ = c₅ .before in
+    let c₉ = c₆ .before .before .before in
+    let c₁₀ = c₉ .before in
+    let c₁₁ = c₁₀ .before in
+    let t = c .before .before .before .before .before .before .before .before .before .before .before .before .before .before in
+    line-make (t .args .c) columns (t .args .k) (t .args .rec) (t .args .a) (t .args .masks .now) _ _ _ _ _ _
+    (ap (λ (x : ℕ). x + t .args .a) (c₁₁ .record-left .ensures)) (c₁₀ .row-top .ensures)
+    (mask-is (t .args .c) columns (t .args .k) (t .args .rec) (t .args .a) _ _ refl (c₉ .mask-at .ensures)) refl refl (c₆ .half-units .ensures) _ _ _ _ _
+    (c₅ .sample-at .ensures) (c₄ .class-at .ensures) (c .before .before .before .class-at2 .ensures) (c .before .before .class-at3 .ensures) (c .before .level-of .ensures)
 
 pub column-line-spec : {M : Type 1} → statement M
 column-line-spec =
     tie.close
     (tie.spec
-    group-left-requires
+    record-left-requires
     add-x
     row-top-requires
     mask-at-requires

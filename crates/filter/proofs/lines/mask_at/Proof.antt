@@ -4,7 +4,7 @@ use mathlib.Core.Path.{ap, ap₂}
 use Prim.Native.Nat.{ℕ, _+_, _*_, _/_}
 use Rattle.units.specs.Frame.{records}
 use Rattle.gap.proofs.Frames.{records-small, record-place, start-in}
-use Rattle.filter.proofs.Leaves.{units-le}
+use Rattle.filter.proofs.LineWords.{units-le}
 use borrow.Author.Needs.{needs}
 use Rattle.filter.proofs.lines.mask_at.Statement.{statement}
 use Rattle.filter.proofs.lines.mask_at.Tie as tie
@@ -16,25 +16,63 @@ record-row-requires : tie.Need-record-row-requires
 record-row-requires c κs = search needs
 
 mul-record-start : tie.Need-mul-record-start
-mul-record-start c = omega (arith, records-small (c .before .before .args .k * c .before .before .args .sb4 .0 / 32) (records (c .before .before .args .w4 .0)) _ _ (c .record-row .ensures) (c .before .records-along .ensures) (omega arith) (omega arith))
+mul-record-start c =
+    omega (
+      arith,
+      records-small (c .before .before .args .k * c .before .before .args .sb4 .0 / 32) (records (c .before .before .args .w4 .0)) _ _
+          (c .record-row .ensures) (c .before .records-along .ensures) (omega arith) (omega arith),
+    )
 
 add-record-start : tie.Need-add-record-start
-add-record-start c = omega (arith, records-small (c .before .before .args .k * c .before .before .args .sb4 .0 / 32) (records (c .before .before .args .w4 .0)) _ _ (c .record-row .ensures) (c .before .records-along .ensures) (omega arith) (omega arith))
+add-record-start c =
+    omega (
+      arith,
+      records-small (c .before .before .args .k * c .before .before .args .sb4 .0 / 32) (records (c .before .before .args .w4 .0)) _ _
+          (c .record-row .ensures) (c .before .records-along .ensures) (omega arith) (omega arith),
+    )
 
 record-start-requires : tie.Need-record-start-requires
-record-start-requires c κs = (omega arith, omega (arith, c .before .records-along .ensures, records-small (c .before .before .args .k * c .before .before .args .sb4 .0 / 32) (records (c .before .before .args .w4 .0)) _ _ (c .record-row .ensures) (c .before .records-along .ensures) (omega arith) (omega arith)))
+record-start-requires c κs = (
+  omega arith,
+  omega (
+    arith,
+    c .before .records-along .ensures,
+    records-small (c .before .before .args .k * c .before .before .args .sb4 .0 / 32) (records (c .before .before .args .w4 .0)) _ _ (c .record-row .ensures)
+        (c .before .records-along .ensures) (omega arith) (omega arith),
+  ),
+)
 
 step-of-requires : tie.Need-step-of-requires
 step-of-requires c κs = search needs
 
 mul-result : tie.Need-mul-result
-mul-result c = omega (arith, ap (λ (n : ℕ). n * c .before .before .before .before .args .unit) (c .step-of .ensures), units-le (c .before .before .before .before .args .luma) (c .before .before .before .before .args .unit) (omega arith))
+mul-result c =
+    omega (
+      arith,
+      ap (λ (n : ℕ). n * c .before .before .before .before .args .unit) (c .step-of .ensures),
+      units-le (c .before .before .before .before .args .luma) (c .before .before .before .before .args .unit) (omega arith),
+    )
 
 add-result : tie.Need-add-result
-add-result c = omega (arith, ap (λ (n : ℕ). n * c .before .before .before .before .args .unit) (c .step-of .ensures), units-le (c .before .before .before .before .args .luma) (c .before .before .before .before .args .unit) (omega arith), start-in (c .before .before .before .before .args .luma) (c .before .before .before .before .args .pass) (omega arith), c .before .record-start .ensures, records-small (c .before .before .before .before .args .k * c .before .before .before .before .args .sb4 .0 / 32) (records (c .before .before .before .before .args .w4 .0)) _ _ (c .before .before .record-row .ensures) (c .before .before .before .records-along .ensures) (omega arith) (omega arith))
+add-result c =
+    omega (
+      arith,
+      ap (λ (n : ℕ). n * c .before .before .before .before .args .unit) (c .step-of .ensures),
+      units-le (c .before .before .before .before .args .luma) (c .before .before .before .before .args .unit) (omega arith),
+      start-in (c .before .before .before .before .args .luma) (c .before .before .before .before .args .pass) (omega arith),
+      c .before .record-start .ensures,
+      records-small (c .before .before .before .before .args .k * c .before .before .before .before .args .sb4 .0 / 32)
+          (records (c .before .before .before .before .args .w4 .0)) _ _ (c .before .before .record-row .ensures) (c .before .before .before .records-along .ensures)
+          (omega arith) (omega arith),
+    )
 
 returns : tie.Need-returns
-returns c = ap₂ (λ (m n : ℕ). m + n * c .before .before .before .before .args .unit) (record-place (c .before .before .before .before .args .k * c .before .before .before .before .args .sb4 .0 / 32) (records (c .before .before .before .before .args .w4 .0)) _ _ (c .before .before .record-row .ensures) (c .before .before .before .records-along .ensures) (c .before .before .before .before .args .luma) (c .before .before .before .before .args .pass) (c .before .before .before .before .args .g) _ (c .before .record-start .ensures)) (c .step-of .ensures)
+returns c =
+    ap₂ (λ (m n : ℕ). m + n * c .before .before .before .before .args .unit)
+    (record-place (c .before .before .before .before .args .k * c .before .before .before .before .args .sb4 .0 / 32)
+    (records (c .before .before .before .before .args .w4 .0)) _ _ (c .before .before .record-row .ensures) (c .before .before .before .records-along .ensures)
+    (c .before .before .before .before .args .luma) (c .before .before .before .before .args .pass) (c .before .before .before .before .args .rec) _
+    (c .before .record-start .ensures)) (c .step-of .ensures)
 
 pub mask-at-spec : {M : Type 1} → statement M
 mask-at-spec =

@@ -4,58 +4,104 @@ use mathlib.Core.Path.{refl, ap}
 use Prim.Native.Nat.{ℕ, _+_}
 use Rattle.plane.specs.Line.{rows}
 use Rattle.gap.proofs.Frames.{rows-le}
-use Rattle.filter.proofs.Leaves.{near, unit-lt, mask-is, class-asks, line-make}
+use Rattle.filter.proofs.LineWords.{near, unit-lt, mask-is, class-asks, line-make}
 use borrow.Author.Needs.{needs}
 use Rattle.filter.proofs.lines.row_line.Statement.{statement}
 use Rattle.filter.proofs.lines.row_line.Tie as tie
 
-group-left-requires : tie.Need-group-left-requires
-group-left-requires c κs = search needs
+record-left-requires : tie.Need-record-left-requires
+record-left-requires c κs = search needs
 
 row-top-requires : tie.Need-row-top-requires
 row-top-requires c κs = search needs
 
 add-y : tie.Need-add-y
-add-y c = let t = c .before .before .before .before in omega (arith, c .row-top .ensures, rows-le (t .args .c .ssy) (t .args .k) (t .args .c .sb4 .0) 4096 _ (t .pre .proper .ssy-le) (t .pre .row) refl, unit-lt (t .args .c) rows (t .args .k) (t .args .g) (t .args .a) _ (t .pre))
+add-y c = let t = c .before .before .before .before in
+    omega (
+      arith,
+      c .row-top .ensures,
+      rows-le (t .args .c .«ss_ver») (t .args .k) (t .args .c .sb4 .0) 4096 _ (t .pre .proper .ss-ver-le) (t .pre .row) refl,
+      unit-lt (t .args .c) rows (t .args .k) (t .args .rec) (t .args .a) _ (t .pre),
+    )
 
 first-line-requires : tie.Need-first-line-requires
 first-line-requires c κs = search needs
 
 add-unit : tie.Need-add-unit
-add-unit c = let t = c .before .before .before .before .before in omega (arith, c .first-line .ensures, unit-lt (t .args .c) rows (t .args .k) (t .args .g) (t .args .a) _ (t .pre))
+add-unit c = let t = c .before .before .before .before .before in omega (arith, c .first-line .ensures, unit-lt (t .args .c) rows (t .args .k) (t .args .rec) (t .args .a) _ (t .pre))
 
 mask-at-requires : tie.Need-mask-at-requires
-mask-at-requires c κs = let t = c .before .before .before .before .before in (omega arith, t .pre .wide, t .pre .row, t .pre .group, omega (arith, c .first-line .ensures, unit-lt (t .args .c) rows (t .args .k) (t .args .g) (t .args .a) _ (t .pre)))
+mask-at-requires c κs = let t = c .before .before .before .before .before in (
+  omega arith,
+  t .pre .width,
+  t .pre .row,
+  t .pre .recordUnits,
+  omega (arith, c .first-line .ensures, unit-lt (t .args .c) rows (t .args .k) (t .args .rec) (t .args .a) _ (t .pre)),
+)
 
 half-units-requires : tie.Need-half-units-requires
 half-units-requires c κs = search needs
 
 sample-at-requires : tie.Need-sample-at-requires
-sample-at-requires c κs = let t = c .before .before .before .before .before .before .before in rw (c .before .before .before .row-top .ensures, c .before .before .before .before .group-left .ensures) (c .before .before .before .before .before .before .before .pre .sample, near (t .args .c) rows (t .args .k) (t .args .g) (t .args .a) _ (t .pre) .0, near (t .args .c) rows (t .args .k) (t .args .g) (t .args .a) _ (t .pre) .1)
+sample-at-requires c κs = let t = c .before .before .before .before .before .before .before in
+    rw (c .before .before .before .row-top .ensures, c .before .before .before .before .record-left .ensures) (
+      c .before .before .before .before .before .before .before .pre .sample,
+      near (t .args .c) rows (t .args .k) (t .args .rec) (t .args .a) _ (t .pre) .0,
+      near (t .args .c) rows (t .args .k) (t .args .rec) (t .args .a) _ (t .pre) .1,
+    )
 
 class-at-requires : tie.Need-class-at-requires
-class-at-requires c κs = let t = c .before .before .before .before .before .before .before .before in class-asks (t .args .c) rows (t .args .k) (t .args .g) (t .args .a) _ (t .pre) _ _ _ 0 (mask-is (t .args .c) rows (t .args .k) (t .args .g) (t .args .a) _ _ (ap (λ (x : ℕ). x + t .args .a) (c .before .before .before .first-line .ensures)) (c .before .before .mask-at .ensures)) refl (c .before .half-units .ensures) (omega arith)
+class-at-requires c κs = let t = c .before .before .before .before .before .before .before .before in
+    class-asks (t .args .c) rows (t .args .k) (t .args .rec) (t .args .a) _ (t .pre) _ _ _ 0
+    (mask-is (t .args .c) rows (t .args .k) (t .args .rec) (t .args .a) _ _ (ap (λ (x : ℕ). x + t .args .a) (c .before .before .before .first-line .ensures))
+    (c .before .before .mask-at .ensures)) refl (c .before .half-units .ensures) (omega arith)
 
 class-at-requires-2 : tie.Need-class-at-requires-2
-class-at-requires-2 c κs = let t = c .before .before .before .before .before .before .before .before .before in class-asks (t .args .c) rows (t .args .k) (t .args .g) (t .args .a) _ (t .pre) _ _ _ 1 (mask-is (t .args .c) rows (t .args .k) (t .args .g) (t .args .a) _ _ (ap (λ (x : ℕ). x + t .args .a) (c .before .before .before .before .first-line .ensures)) (c .before .before .before .mask-at .ensures)) refl (c .before .before .half-units .ensures) (omega arith)
+class-at-requires-2 c κs = let t = c .before .before .before .before .before .before .before .before .before in
+    class-asks (t .args .c) rows (t .args .k) (t .args .rec) (t .args .a) _ (t .pre) _ _ _ 1
+    (mask-is (t .args .c) rows (t .args .k) (t .args .rec) (t .args .a) _ _ (ap (λ (x : ℕ). x + t .args .a) (c .before .before .before .before .first-line .ensures))
+    (c .before .before .before .mask-at .ensures)) refl (c .before .before .half-units .ensures) (omega arith)
 
 class-at-requires-3 : tie.Need-class-at-requires-3
-class-at-requires-3 c κs = let t = c .before .before .before .before .before .before .before .before .before .before in class-asks (t .args .c) rows (t .args .k) (t .args .g) (t .args .a) _ (t .pre) _ _ _ 2 (mask-is (t .args .c) rows (t .args .k) (t .args .g) (t .args .a) _ _ (ap (λ (x : ℕ). x + t .args .a) (c .before .before .before .before .before .first-line .ensures)) (c .before .before .before .before .mask-at .ensures)) refl (c .before .before .before .half-units .ensures) (omega arith)
+class-at-requires-3 c κs = let t = c .before .before .before .before .before .before .before .before .before .before in
+    class-asks (t .args .c) rows (t .args .k) (t .args .rec) (t .args .a) _ (t .pre) _ _ _ 2
+    (mask-is (t .args .c) rows (t .args .k) (t .args .rec) (t .args .a) _ _
+    (ap (λ (x : ℕ). x + t .args .a) (c .before .before .before .before .before .first-line .ensures)) (c .before .before .before .before .mask-at .ensures)) refl
+    (c .before .before .before .half-units .ensures) (omega arith)
 
 level-of-requires : tie.Need-level-of-requires
-level-of-requires c κs = (omega arith, c .before .before .before .before .before .before .before .before .before .before .before .pre .plane, rw (c .before .before .before .before .before .before .before .row-top .ensures, c .before .before .before .before .before .before .before .before .group-left .ensures) (c .before .before .before .before .before .before .before .before .before .before .before .pre .level))
+level-of-requires c κs =
+    let c₇ = c .before .before .before .before .before .before .before in
+    let c₈ = c₇ .before in
+    let c₁₁ = c₈ .before .before .before in
+    (omega arith, c₁₁ .pre .plane, rw (c₇ .row-top .ensures, c₈ .record-left .ensures) (c₁₁ .pre .level))
 
 mul-t18 : tie.Need-mul-t18
-mul-t18 c = record { fits = c .before .before .before .before .before .before .before .before .before .before .before .before .before .pre .pitch }
+mul-t18 c =
+    let c₁₃ = c .before .before .before .before .before .before .before .before .before .before .before .before .before in
+    record { fits = c₁₃ .pre .«level_stride» }
 
 returns : tie.Need-returns
-returns c = let t = c .before .before .before .before .before .before .before .before .before .before .before .before .before in line-make (t .args .c) rows (t .args .k) (t .args .g) (t .args .a) (t .args .masks .now) _ _ _ _ _ _ (c .before .before .before .before .before .before .before .before .before .before .group-left .ensures) (ap (λ (x : ℕ). x + t .args .a) (c .before .before .before .before .before .before .before .before .before .row-top .ensures)) (mask-is (t .args .c) rows (t .args .k) (t .args .g) (t .args .a) _ _ (ap (λ (x : ℕ). x + t .args .a) (c .before .before .before .before .before .before .before .before .first-line .ensures)) (c .before .before .before .before .before .before .before .mask-at .ensures)) refl refl (c .before .before .before .before .before .before .half-units .ensures) _ _ _ _ _ (c .before .before .before .before .before .sample-at .ensures) (c .before .before .before .before .class-at .ensures) (c .before .before .before .class-at2 .ensures) (c .before .before .class-at3 .ensures) (c .before .level-of .ensures)
+returns c =
+    let c₄ = c .before .before .before .before in
+    let c₅ = c₄ .before in
+    let c₆ = c₅ .before in
+    let c₇ = c₆ .before in
+    let c₈ = c₇ .before in
+    let c₉ = c₈ .before in
+    let c₁₀ = c₉ .before in
+    let t = c .before .before .before .before .before .before .before .before .before .before .before .before .before in
+    line-make (t .args .c) rows (t .args .k) (t .args .rec) (t .args .a) (t .args .masks .now) _ _ _ _ _ _ (c₁₀ .record-left .ensures)
+    (ap (λ (x : ℕ). x + t .args .a) (c₉ .row-top .ensures))
+    (mask-is (t .args .c) rows (t .args .k) (t .args .rec) (t .args .a) _ _ (ap (λ (x : ℕ). x + t .args .a) (c₈ .first-line .ensures)) (c₇ .mask-at .ensures)) refl
+    refl (c₆ .half-units .ensures) _ _ _ _ _ (c₅ .sample-at .ensures) (c₄ .class-at .ensures) (c .before .before .before .class-at2 .ensures)
+    (c .before .before .class-at3 .ensures) (c .before .level-of .ensures)
 
 pub row-line-spec : {M : Type 1} → statement M
 row-line-spec =
     tie.close
     (tie.spec
-    group-left-requires
+    record-left-requires
     row-top-requires
     add-y
     first-line-requires

@@ -11,7 +11,12 @@ chroma-unit-requires : tie.Need-chroma-unit-requires
 chroma-unit-requires c κs = search needs
 
 mul-result : tie.Need-mul-result
-mul-result c = omega (arith, rows-le (c .before .before .args .ssy) (c .before .before .args .k) (c .before .before .args .sb4 .0) 4096 _ (omega arith) (omega arith) (c .before .chroma-unit .ensures))
+mul-result c =
+    omega (
+      arith,
+      rows-le (c .before .before .args .ss-ver) (c .before .before .args .k) (c .before .before .args .sb4 .0) 4096 _ (omega arith) (omega arith)
+          (c .before .chroma-unit .ensures),
+    )
 
 returns : tie.Need-returns
 returns c = ap (λ (n : ℕ). c .before .before .args .k * n) (c .before .chroma-unit .ensures)

@@ -6,7 +6,7 @@ use Rattle.gap.proofs.lines.in_record.Statement.{statement}
 use Rattle.gap.proofs.lines.in_record.Tie as tie
 
 mul-over : tie.Need-mul-over
-mul-over c = omega (arith, prod-le (c .args .g) (c .args .side) 128 32 (omega arith) (omega arith))
+mul-over c = omega (arith, prod-le (c .args .rec) (c .args .side) 128 32 (omega arith) (omega arith))
 
 over-requires : tie.Need-over-requires
 over-requires c κs = search needs

@@ -36,7 +36,8 @@ word-requires c κs =
 returns : tie.Need-returns
 returns c =
     c .word .ensures
-    ∙ luma-word (c .before .before .before .args .masks .now) (c .before .before .before .args .luma) (c .before .before .before .args .halves) (c .before .before .before .args .at) (c .before .before .before .args .i) (c .before .before .before .args .c) (c .before .if1 .taken)
+    ∙ luma-word (c .before .before .before .args .masks .now) (c .before .before .before .args .luma) (c .before .before .before .args .halves)
+    (c .before .before .before .args .at) (c .before .before .before .args .i) (c .before .before .before .args .c) (c .before .if1 .taken)
 
 mul-word-3 : tie.Need-mul-word-3
 mul-word-3 c =
@@ -68,12 +69,14 @@ word-requires-2 c κs =
 returns-2 : tie.Need-returns-2
 returns-2 c =
     c .word2 .ensures
-    ∙ chroma-word (c .before .before .before .before .args .masks .now) (c .before .before .before .before .args .luma) (c .before .before .before .before .args .halves) (c .before .before .before .before .args .at) (c .before .before .before .before .args .i) (c .before .before .before .before .args .c)
+    ∙ chroma-word (c .before .before .before .before .args .masks .now) (c .before .before .before .before .args .luma) (c .before .before .before .before .args .halves)
+    (c .before .before .before .before .args .at) (c .before .before .before .before .args .i) (c .before .before .before .before .args .c)
     (c .before .before .if1 .left) (omega arith)
 
 returns-3 : tie.Need-returns-3
 returns-3 c =
-    chroma-none (c .before .before .before .args .masks .now) (c .before .before .before .args .luma) (c .before .before .before .args .halves) (c .before .before .before .args .at) (c .before .before .before .args .i) (c .before .before .before .args .c) (c .before .if1 .left) (omega arith)
+    chroma-none (c .before .before .before .args .masks .now) (c .before .before .before .args .luma) (c .before .before .before .args .halves)
+    (c .before .before .before .args .at) (c .before .before .before .args .i) (c .before .before .before .args .c) (c .before .if1 .left) (omega arith)
 
 pub class-word-spec : {M : Type 1} → statement M
 class-word-spec =

@@ -1,6 +1,6 @@
 -- The lines passed have the block's edge, and the context of its last units.
 use Rattle.mask_edges.proofs.Contexts.{stores-here}
-use Rattle.mask_edges.proofs.Turns.{held, block-none, block-step, stores-none, stores-step}
+use Rattle.mask_edges.proofs.LoopTurns.{held, block-none, block-step, stores-none, stores-step}
 use Rattle.mask_edges.specs.Folds.{bitIn, blockEdge, stores, classIn}
 use denote.Ref.{now}
 use lib.ListN.{length, length-set, getD}
@@ -38,7 +38,11 @@ cell-requires-2 : tie.Need-cell-requires-2 Inv-loop μ-loop
 cell-requires-2 c κs = search needs
 
 slice-write-ctx : tie.Need-slice-write-ctx Inv-loop μ-loop
-slice-write-ctx c = omega (arith, c .before .before .before .before .loop-test .taken, c .before .before .before .before .before .loop .inv .2, c .before .before .before .before .before .before .before .before .before .before .pre .3)
+slice-write-ctx c =
+    let c₄ = c .before .before .before .before in
+    let c₅ = c₄ .before in
+    let c₁₀ = c₅ .before .before .before .before .before in
+    omega (arith, c₄ .loop-test .taken, c₅ .loop .inv .2, c₁₀ .pre .3)
 
 set-edge-requires : tie.Need-set-edge-requires Inv-loop μ-loop
 set-edge-requires c κs =

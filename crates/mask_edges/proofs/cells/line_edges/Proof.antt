@@ -1,6 +1,6 @@
 -- What is left from the place on is all there was to do; the place moves up by steps above 0.
 use Rattle.mask_edges.proofs.Walks.{Left, left-on, left-end}
-use Rattle.mask_edges.proofs.Turns.{held}
+use Rattle.mask_edges.proofs.LoopTurns.{held}
 use Rattle.mask_edges.specs.Folds.{bitIn, walk, classIn, stepIn, first}
 use lib.ListN.{length}
 use borrow.Author.Needs.{needs}

@@ -47,7 +47,8 @@ returns-2 c =
     let w = c .before .before .before .before .before .before .before .before .edge-word in
     let a = d .args in
     c .before .before .set-at2 .ensures ∙ ap (mark (now (a .masks)))
-    (bit-high (a .p .pass) (a .p .unit + a .u) (a .class) (a .p .chroma) (a .p .half) (w .result) (a .p .place + a .v) (w .ensures .0) (c .before .before .before .before .before .if1 .left) (omega arith))
+    (bit-high (a .p .pass) (a .p .unit + a .u) (a .class) (a .p .chroma) (a .p .half) (w .result) (a .p .place + a .v) (w .ensures .0)
+    (c .before .before .before .before .before .if1 .left) (omega arith))
 
 pub set-edge-spec : {M : Type 1} → statement M
 set-edge-spec =

@@ -1,7 +1,7 @@
 -- The units lie in one half, or in both in turn.
 use denote.Ref.{now}
 use borrow.Author.Needs.{needs}
-use Rattle.mask_edges.proofs.Turns.{edged-none}
+use Rattle.mask_edges.proofs.LoopTurns.{edged-none}
 use Rattle.mask_edges.proofs.grid.block_edge.Statement.{statement}
 use Rattle.mask_edges.proofs.grid.block_edge.Tie as tie
 
@@ -54,9 +54,11 @@ same-length-6 c = search needs
 
 returns-3 : tie.Need-returns-3
 returns-3 c =
+    let c₄ = c .before .before .before .before in
+    let c₁₁ = c₄ .before .before .before .before .before .before .before in
     let a = c .before .before .before .before .before .before .before .before .before .before .before .before .before .before .before .before .before .before .before .before .before .args in
     let none = edged-none (a .p) (a .class) (now (a .ctx)) (now (a .masks)) in
-    let E = c .before .before .before .before .half-edge4 .ensures _ _ (c .before .before .before .before .before .before .before .before .before .before .before .half-edge3 .ensures _ _ none) in
+    let E = c₄ .half-edge4 .ensures _ _ (c₁₁ .half-edge3 .ensures _ _ none) in
     (E .edge, E .context)
 
 pub block-edge-spec : {M : Type 1} → statement M

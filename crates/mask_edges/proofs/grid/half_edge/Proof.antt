@@ -8,7 +8,7 @@ use lib.ListN.{length, length-set}
 use borrow.Author.Needs.{needs}
 use Rattle.mask_edges.specs.Folds.{Edged}
 use Rattle.mask_edges.proofs.Words.{word-in, class-word, bit-at}
-use Rattle.mask_edges.proofs.Turns.{edged-step}
+use Rattle.mask_edges.proofs.LoopTurns.{edged-step}
 use Rattle.mask_edges.proofs.grid.half_edge.Statement.{statement}
 use Rattle.mask_edges.proofs.grid.half_edge.Tie as tie
 
@@ -55,7 +55,10 @@ add-set-in c =
     omega (arith, c .before .before .before .before .loop-test .taken, h .0 .place, h .0 .half, h .3)
 
 sub-set-in : tie.Need-sub-set-in Inv-loop μ-loop
-sub-set-in c = omega (arith, c .before .before .before .before .before .loop .inv .0 .0, c .before .before .before .before .before .before .before .before .before .before .pre .1 .2)
+sub-set-in c =
+    let c₅ = c .before .before .before .before .before in
+    let c₁₀ = c₅ .before .before .before .before .before in
+    omega (arith, c₅ .loop .inv .0 .0, c₁₀ .pre .1 .2)
 
 set-in-requires : tie.Need-set-in-requires Inv-loop μ-loop
 set-in-requires c κs =
@@ -64,8 +67,18 @@ set-in-requires c κs =
     let g = c .before .before .before .before .before .before .before .before .before .before .pre .1 in
     let l = c .before .before .before .before .before .loop in
     let k = c .before .before .least in
-    let w = word-in (a .p .pass) (a .p .unit) (k .result) (a .p .chroma) (h .0 .pass) (omega (arith, h .0 .unit, h .2)) (omega (arith, k .ensures, h .1)) in
-    (omega (arith, w, class-word (a .p .pass) (a .p .unit) (k .result) (a .p .chroma) 0, c .before .before .before .before .before .before .before .edge-word .ensures .0, g .0, l .inv .1, h .0 .words), omega (arith, c .before .before .before .before .loop-test .taken, g .3, h .0 .half, l .inv .0 .0, g .2))
+    let w = word-in (a .p .pass) (a .p .unit) (k .result) (a .p .chroma) (h .0 .pass) (omega (arith, h .0 .unit, h .2)) (omega (arith, k .ensures, h .1)) in (
+      omega (
+        arith,
+        w,
+        class-word (a .p .pass) (a .p .unit) (k .result) (a .p .chroma) 0,
+        c .before .before .before .before .before .before .before .edge-word .ensures .0,
+        g .0,
+        l .inv .1,
+        h .0 .words,
+      ),
+      omega (arith, c .before .before .before .before .loop-test .taken, g .3, h .0 .half, l .inv .0 .0, g .2),
+    )
 
 add-v : tie.Need-add-v Inv-loop μ-loop
 add-v c = search needs

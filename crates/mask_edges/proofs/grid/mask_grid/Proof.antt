@@ -1,5 +1,5 @@
 -- The block's edge, then inner edges unless the block is skipped.
-use Rattle.mask_edges.proofs.Turns.{grid-skipped, grid-stepped}
+use Rattle.mask_edges.proofs.LoopTurns.{grid-skipped, grid-stepped}
 use Rattle.mask_edges.specs.Folds.{bitIn}
 use borrow.Author.Needs.{needs}
 use Rattle.mask_edges.proofs.grid.mask_grid.Statement.{statement}

@@ -1,6 +1,6 @@
 -- The steps passed have their edges.
 use Prim.Native.Nat.{_/_}
-use Rattle.mask_edges.proofs.Turns.{held, step-none, step-step, no-step, stepping}
+use Rattle.mask_edges.proofs.LoopTurns.{held, step-none, step-step, no-step, stepping}
 use Rattle.mask_edges.specs.Folds.{bitIn, stepEdges}
 use lib.ListN.{length}
 use borrow.Author.Needs.{needs}

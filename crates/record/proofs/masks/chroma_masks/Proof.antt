@@ -57,8 +57,8 @@ mask-edges-chroma-requires c κs =
     let a = c .before .before .before .before .before .before .before .before .before .before .before .before .before in
     let p = a .pre in (
       record {
-        wide = rw (p .5, c₃ .chroma-unit2 .ensures, c₈ .ss-hor .ensures) (chroma-seen (a .args .b) (p .0) (p .1) .0, chroma-place (a .args .b) (p .0) (p .1) .0);
-        high = rw (p .6, c₅ .chroma-unit .ensures, c₇ .ss-ver .ensures) (chroma-seen (a .args .b) (p .0) (p .1) .1, chroma-place (a .args .b) (p .0) (p .1) .1);
+        width = rw (p .5, c₃ .chroma-unit2 .ensures, c₈ .ss-hor .ensures) (chroma-seen (a .args .b) (p .0) (p .1) .0, chroma-place (a .args .b) (p .0) (p .1) .0);
+        height = rw (p .6, c₅ .chroma-unit .ensures, c₇ .ss-ver .ensures) (chroma-seen (a .args .b) (p .0) (p .1) .1, chroma-place (a .args .b) (p .0) (p .1) .1);
         record-words = omega (arith, c .before .before .mask-edges-chroma-arg .given);
         above-units = omega (arith, p .5, p .3);
         left-units = omega (arith, p .6, p .4);

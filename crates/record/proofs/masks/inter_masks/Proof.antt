@@ -40,8 +40,8 @@ mask-edges-inter-requires c κs =
     let a = c .before .before .before .before .before .before .before .before .before in
     let p = a .pre in (
       record {
-        wide = (omega (arith, p .6, luma-seen (a .args .b) (p .0) (p .2) .0), omega (arith, p .6, luma-fits (a .args .b) (p .0) (p .2) .0));
-        high = (omega (arith, p .7, luma-seen (a .args .b) (p .0) (p .2) .1), omega (arith, p .7, luma-fits (a .args .b) (p .0) (p .2) .1));
+        width = (omega (arith, p .6, luma-seen (a .args .b) (p .0) (p .2) .0), omega (arith, p .6, luma-fits (a .args .b) (p .0) (p .2) .0));
+        height = (omega (arith, p .7, luma-seen (a .args .b) (p .0) (p .2) .1), omega (arith, p .7, luma-fits (a .args .b) (p .0) (p .2) .1));
         record-words = omega arith;
         above-units = omega (arith, p .6, p .4);
         left-units = omega (arith, p .7, p .5);
@@ -63,7 +63,8 @@ returns c =
     let c₆ = c .before .before .before .before .before .before in
     let a = c .before .before .before .before .before .before .before .before .before .before .before .before .before .before .before .before in
     let p = a .pre in (
-      inter-put (a .args .b) _ _ _ (now (a .args .above)) (now (a .args .left)) (now (a .args .masks)) _ (c .before .before .before .before .before .before .before .before .before .before .before .before .record-at .ensures) (now (a .args .tx-masks)) (p .2) (p .6) (p .7)
+      inter-put (a .args .b) _ _ _ (now (a .args .above)) (now (a .args .left)) (now (a .args .masks)) _
+          (c .before .before .before .before .before .before .before .before .before .before .before .before .record-at .ensures) (now (a .args .tx-masks)) (p .2) (p .6) (p .7)
           (c₆ .mask-edges-inter .ensures .0),
       (
         rw (p .2) (c₆ .mask-edges-inter .ensures .1 .0 ∙ rw (p .6, p .7) refl),

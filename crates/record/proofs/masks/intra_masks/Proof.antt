@@ -40,8 +40,8 @@ mask-edges-intra-requires c κs =
     let a = c .before .before .before .before .before .before .before .before .before in
     let p = a .pre in (
       record {
-        wide = (omega (arith, p .5, luma-seen (a .args .b) (p .0) (p .1) .0), omega (arith, p .5, luma-fits (a .args .b) (p .0) (p .1) .0));
-        high = (omega (arith, p .6, luma-seen (a .args .b) (p .0) (p .1) .1), omega (arith, p .6, luma-fits (a .args .b) (p .0) (p .1) .1));
+        width = (omega (arith, p .5, luma-seen (a .args .b) (p .0) (p .1) .0), omega (arith, p .5, luma-fits (a .args .b) (p .0) (p .1) .0));
+        height = (omega (arith, p .6, luma-seen (a .args .b) (p .0) (p .1) .1), omega (arith, p .6, luma-fits (a .args .b) (p .0) (p .1) .1));
         record-words = omega arith;
         above-units = omega (arith, p .5, p .3);
         left-units = omega (arith, p .6, p .4);
@@ -63,7 +63,8 @@ returns c =
     let c₆ = c .before .before .before .before .before .before in
     let a = c .before .before .before .before .before .before .before .before .before .before .before .before .before .before .before .before in
     let p = a .pre in (
-      intra-put (a .args .b) _ _ _ (now (a .args .above)) (now (a .args .left)) (now (a .args .masks)) _ (c .before .before .before .before .before .before .before .before .before .before .before .before .record-at .ensures) (p .1) (p .5) (p .6)
+      intra-put (a .args .b) _ _ _ (now (a .args .above)) (now (a .args .left)) (now (a .args .masks)) _
+          (c .before .before .before .before .before .before .before .before .before .before .before .before .record-at .ensures) (p .1) (p .5) (p .6)
           (c₆ .mask-edges-intra .ensures .0),
       (
         rw (p .1) (c₆ .mask-edges-intra .ensures .1 .0 ∙ rw (p .5) refl),

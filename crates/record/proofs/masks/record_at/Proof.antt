@@ -15,7 +15,13 @@ record-of-requires : tie.Need-record-of-requires
 record-of-requires c κs = (omega (arith, c .luma-units .ensures, c .before .pre .0 .0), omega (arith, c .before .pre .0 .0, c .before .pre .1), omega (arith, c .before .pre .0 .1, c .before .pre .2))
 
 mul-result : tie.Need-mul-result
-mul-result c = omega (arith, c .record-of .ensures, prod-le (c .before .before .args .b .y .0 / 32) (records (c .before .luma-units .result .0)) 128 128 (omega (arith, c .before .before .pre .0 .1, c .before .before .pre .2)) (omega (arith, c .before .luma-units .ensures, c .before .before .pre .0 .0)))
+mul-result c =
+    omega (
+      arith,
+      c .record-of .ensures,
+      prod-le (c .before .before .args .b .y .0 / 32) (records (c .before .luma-units .result .0)) 128 128
+          (omega (arith, c .before .before .pre .0 .1, c .before .before .pre .2)) (omega (arith, c .before .luma-units .ensures, c .before .before .pre .0 .0)),
+    )
 
 returns : tie.Need-returns
 returns c = rw (c .record-of .ensures, c .before .luma-units .ensures) refl

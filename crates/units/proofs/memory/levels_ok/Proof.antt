@@ -17,8 +17,8 @@ lines-ok-requires c κs = search needs
 returns : tie.Need-returns
 returns c =
     let a = c .before .before .args in
-    let e : a .stride * (4 * a .h4 .0) ≡ 4 * a .stride * a .h4 .0 = omega arith in
-    c .lines-ok .ensures ∙ ap (λ (n : ℕ). leb (a .w4 .0) (a .stride) && leb n (a .len)) e
+    let e : a .level-stride * (4 * a .h4 .0) ≡ 4 * a .level-stride * a .h4 .0 = omega arith in
+    c .lines-ok .ensures ∙ ap (λ (n : ℕ). leb (a .w4 .0) (a .level-stride) && leb n (a .len)) e
 
 pub levels-ok-spec : {M : Type 1} → statement M
 levels-ok-spec = tie.close (tie.spec mul-lines-ok lines-ok-requires returns)

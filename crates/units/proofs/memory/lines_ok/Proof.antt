@@ -23,7 +23,7 @@ div-result c = search needs
 
 returns : tie.Need-returns
 returns c =
-    ap (λ (b : Bool). leb (c .args .wide) (c .args .stride) && b)
+    ap (λ (b : Bool). leb (c .args .width) (c .args .stride) && b)
     (leb-div (c .args .stride) (c .args .len) (c .args .lines) (c .pre))
 
 pub lines-ok-spec : {M : Type 1} → statement M

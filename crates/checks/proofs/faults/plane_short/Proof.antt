@@ -1,0 +1,49 @@
+-- `plane_short` meets its contract: its calls are the definition's test.
+use mathlib.Core.Path.{refl}
+use borrow.Author.Needs.{needs}
+use Rattle.checks.proofs.TestsPassed.{plane-ss-hor-le, plane-ss-ver-le, stored-some}
+use Rattle.checks.proofs.faults.plane_short.Statement.{statement}
+use Rattle.checks.proofs.faults.plane_short.Tie as tie
+
+hor-requires : tie.Need-hor-requires
+hor-requires c κs = search needs
+
+stored-side-requires : tie.Need-stored-side-requires
+stored-side-requires c κs = (c .before .pre .width .1, rw (c .hor .ensures) (plane-ss-hor-le (c .before .args .c) (c .before .args .n)))
+
+ver-requires : tie.Need-ver-requires
+ver-requires c κs = search needs
+
+stored-side-requires-2 : tie.Need-stored-side-requires-2
+stored-side-requires-2 c κs = (c .before .before .before .pre .height .1, rw (c .ver .ensures) (plane-ss-ver-le (c .before .before .before .args .c) (c .before .before .before .args .n)))
+
+stride-of-requires : tie.Need-stride-of-requires
+stride-of-requires c κs = search needs
+
+plane-ok-requires : tie.Need-plane-ok-requires
+plane-ok-requires c κs =
+    rw (c .before .stored-side2 .ensures, c .before .before .ver .ensures)
+    (stored-some (c .before .before .before .before .before .args .c) (c .before .before .before .before .before .args .n) (c .before .before .before .before .before .pre))
+
+returns : tie.Need-returns
+returns c =
+    rw (
+      c .plane-ok .ensures,
+      c .before .stride-of .ensures,
+      c .before .before .before .before .stored-side .ensures,
+      c .before .before .stored-side2 .ensures,
+      c .before .before .before .before .before .hor .ensures,
+      c .before .before .before .ver .ensures,
+    ) refl
+
+pub plane-short-spec : {M : Type 1} → statement M
+plane-short-spec =
+    tie.close
+    (tie.spec
+    hor-requires
+    stored-side-requires
+    ver-requires
+    stored-side-requires-2
+    stride-of-requires
+    plane-ok-requires
+    returns)

@@ -1,7 +1,0 @@
-pub mod Lines
-pub mod Pieces
-pub mod Asked
-pub mod Steps
-pub mod Frames
-pub mod Levels
-pub mod Example

@@ -1,0 +1,9 @@
+pub mod Lines
+pub mod Runs
+pub mod LinesTaken
+pub mod Drawn
+pub mod Bounds
+pub mod PartLeft
+pub mod Rooms
+pub mod Texts
+pub mod Answers

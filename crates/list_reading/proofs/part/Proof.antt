@@ -1,0 +1,89 @@
+-- `part` meets its contract: what is read goes after the bytes held, and lines are taken off what is held then.
+use borrow.Author.Needs.{needs}
+use native.Mathlib.Omega.{arith}
+use mathlib.Core.Path.{_∙_}
+use Rattle.list_reading.proofs.Turns.{lines-fit, at-fits, adds}
+use Rattle.list_reading.proofs.part.Statement.{statement}
+use Rattle.list_reading.proofs.part.Tie as tie
+
+make-room-requires : tie.Need-make-room-requires
+make-room-requires c κs = search needs
+
+sub-at : tie.Need-sub-at
+sub-at c = search needs
+
+sub-held : tie.Need-sub-held
+sub-held c = search needs
+
+read-more-requires : tie.Need-read-more-requires
+read-more-requires c κs = search needs
+
+add-e : tie.Need-add-e
+add-e c =
+    let c₁₂ = c .before .before .before .before .before .before .before .before .before .before .before .before in
+    record { fits = omega (arith, c₁₂ .pre .0 .fewer, c₁₂ .pre .1, c .before .before .before .read-more .ensures .2) }
+
+sub-take-lines : tie.Need-sub-take-lines
+sub-take-lines c = search needs
+
+part-take-lines-start : tie.Need-part-take-lines-start
+part-take-lines-start c = search needs
+
+part-take-lines-end : tie.Need-part-take-lines-end
+part-take-lines-end c = search needs
+
+take-lines-requires : tie.Need-take-lines-requires
+take-lines-requires c κs =
+    let c₁₂ = c .before .before .before .before .before .before .before .before .before .before .before .before in
+    let c₁₈ = c₁₂ .before .before .before .before .before .before in
+    let c₂₁ = c₁₈ .before .before .before in
+    lines-fit _ _ _ _ _ _ _ _ _ (c₂₁ .pre .0) (c₁₈ .make-room .ensures .less) (c₁₂ .read-more .ensures .2) (c₂₁ .pre .1)
+
+add-t23 : tie.Need-add-t23
+add-t23 c =
+    let c₁₅ = c .before .before .before .before .before .before .before .before .before .before .before .before .before .before .before in
+    let c₂₁ = c₁₅ .before .before .before .before .before .before in
+    let c₂₄ = c₂₁ .before .before .before in
+    record {
+      fits =
+          at-fits _ _ _ _ _ (c₂₄ .pre .0) (c₂₁ .make-room .last .0) _ (c₂₁ .make-room .kept .0) (c₂₁ .make-room .ensures) _ _ _ (c₁₅ .read-more .kept .0)
+          (c₁₅ .read-more .ensures) _ _ (c .before .before .take-lines .ensures) (c₂₄ .pre .1);
+    }
+
+add-t33 : tie.Need-add-t33
+add-t33 c =
+    let c₁₇ = c .before .before .before .before .before .before .before .before .before .before .before .before .before .before .before .before .before in
+    let c₂₆ = c₁₇ .before .before .before .before .before .before .before .before .before in
+    record { fits = omega (arith, c₂₆ .pre .1, c₁₇ .read-more .ensures .2) }
+
+same-length : tie.Need-same-length
+same-length c =
+    let c₁₇ = c .before .before .before .before .before .before .before .before .before .before .before .before .before .before .before .before .before in
+    let c₂₃ = c₁₇ .before .before .before .before .before .before in
+    c₁₇ .read-more .kept .0 ∙ c₂₃ .make-room .kept .0
+
+returns : tie.Need-returns
+returns c =
+    let c₄ = c .before .before .before .before in
+    let c₁₇ = c₄ .before .before .before .before .before .before .before .before .before .before .before .before .before in
+    let c₂₃ = c₁₇ .before .before .before .before .before .before in
+    let c₂₆ = c₂₃ .before .before .before in
+    adds _ _ _ _ _ (c₂₆ .pre .0) (c₂₃ .make-room .last .0) _ (c₂₃ .make-room .kept .0) (c₂₃ .make-room .ensures) _ _ _ (c₁₇ .read-more .kept .0) (c₁₇ .read-more .ensures) _ _ (c₄ .take-lines .ensures)
+
+pub part-spec : {M : Type 1} → statement M
+part-spec =
+    tie.close
+    (tie.spec
+    make-room-requires
+    sub-at
+    sub-held
+    read-more-requires
+    add-e
+    sub-take-lines
+    part-take-lines-start
+    part-take-lines-end
+    take-lines-requires
+    add-t23
+    add-t33
+    same-length
+    returns)

@@ -1,0 +1,4 @@
+pub mod Tables
+pub mod Lines
+pub mod Finds
+pub mod LinesSaid

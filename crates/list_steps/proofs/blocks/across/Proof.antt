@@ -1,0 +1,18 @@
+-- `ss_hor` is at most 1, as `chroma_unit` asks.
+use Rattle.units.proofs.Places.{ss-hor-le}
+use mathlib.Core.Path.{refl, _∙_}
+use borrow.Author.Needs.{needs}
+use Rattle.list_steps.proofs.blocks.across.Statement.{statement}
+use Rattle.list_steps.proofs.blocks.across.Tie as tie
+
+ss-hor-requires : tie.Need-ss-hor-requires
+ss-hor-requires c κs = search needs
+
+chroma-unit-requires : tie.Need-chroma-unit-requires
+chroma-unit-requires c κs = rw (c .ss-hor .ensures) (ss-hor-le (c .before .args .layout))
+
+returns : tie.Need-returns
+returns c = c .chroma-unit .ensures ∙ rw (c .before .ss-hor .ensures) refl
+
+pub across-spec : {M : Type 1} → statement M
+across-spec = tie.close (tie.spec ss-hor-requires chroma-unit-requires returns)

@@ -1,6 +1,0 @@
-// The list of the edges of a frame: definitions in specs/, and the theorems of specs/Promises.antt.
-ghost use Rattle.listed.specs.Promises.{Promises};
-
-pub fn promised()
-    ensures { λ _. ⌜ Promises ⌝ }
-{}

@@ -1,9 +1,0 @@
-pub mod Lines
-pub mod Runs
-pub mod Takes
-pub mod Drawn
-pub mod Bounds
-pub mod Lefts
-pub mod Rooms
-pub mod Texts
-pub mod Answers

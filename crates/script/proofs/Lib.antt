@@ -1,4 +1,0 @@
-pub mod Tables
-pub mod Lines
-pub mod Finds
-pub mod Said

@@ -1,0 +1,7 @@
+pub mod Lines
+pub mod Pieces
+pub mod PieceSamples
+pub mod Steps
+pub mod Frames
+pub mod Levels
+pub mod Example
