@@ -10,7 +10,7 @@ use Rattle.loops.specs.Exactly.{Reflects}
 use Rattle.loops.proofs.Reflected.{reflects-eqb, reflects-flag, reflects-and, reflects-any}
 use Rattle.bits.specs.Mark.{isSet}
 use Rattle.standard.specs.Sizes.{Tx_Wide, Tx_High}
-use Rattle.units.specs.Memory.{halfUnits, lumaBit, chromaBit}
+use Rattle.units.specs.Masks.{halfUnits, lumaBit, chromaBit}
 use Rattle.units.specs.Sizes.{lumaClass, chromaClass}
 use Rattle.units.proofs.Places.{half-in, luma-bit-inj, chroma-bit-inj}
 use Rattle.mask_edges.specs.Recording.{Block, Sweep, columns, rows, isEdge, classAt, edges, Recorded, chromaBits}

@@ -10,7 +10,7 @@ use borrow.Author.Tests.{lt-ltb, le-ltb}
 use Rattle.standard.specs.Sizes.{Num_4x4_Blocks_Wide, Num_4x4_Blocks_High, Tx_Wide, Tx_High, planeSide}
 use Rattle.standard.specs.FilterSize.{filterSize, filterLen}
 use Rattle.standard.specs.Edge.{Frame, onScreen, xP, yP, prevTxSz, isBlockEdge, isTxEdge, applyFilter, edgeSize}
-use Rattle.units.specs.Memory.{halfUnits}
+use Rattle.units.specs.Masks.{halfUnits}
 use Rattle.units.specs.Sizes.{lumaClass, chromaClass, Side, BlockRule}
 use Rattle.units.proofs.Rules.{block-rule, tx-rule}
 use Rattle.mask_edges.specs.Recording.{Block, Sweep, columns, rows, isEdge, classBefore, classAt, contextAfter, Recorded}

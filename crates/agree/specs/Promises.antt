@@ -13,7 +13,7 @@ use lib.Dec.{eqb}
 use Rattle.bits.specs.Mark.{isSet}
 use Rattle.standard.specs.Edge.{Frame, onScreen, applyFilter, edgeSize}
 use Rattle.standard.specs.FilterSize.{filterSize, filterLen}
-use Rattle.units.specs.Memory.{halfUnits, lumaBit}
+use Rattle.units.specs.Masks.{halfUnits, lumaBit}
 use Rattle.units.specs.Sizes.{Side}
 use Rattle.walk.specs.Walk.{lumaLen, chromaLen}
 use Rattle.decomp.specs.Split.{txAt}

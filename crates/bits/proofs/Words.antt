@@ -1,20 +1,44 @@
--- Many tests at once: a word is not zero exactly when it has a bit, and a bit of words or-ed together is the or of their bits, by recursion on the count of words.
+-- Many tests at once: two halves are one word, bit by bit; a word is not zero exactly when it has a bit; and a bit of words or-ed together
+-- is the or of their bits, by recursion on the count of words.
 use mathlib.Core.Path.{_≡_, refl, sym, ap, ap₂, _∙_}
-use mathlib.Core.Bool.{Bool, true, false, _||_, not, or-true, false≢true}
-use Prim.Native.Nat.{ℕ, zero, suc, _+_, _-_, _/_, _%_, _^_, _<_}
+use mathlib.Core.Bool.{Bool, true, false, _||_, not, or-false, or-true, false≢true}
+use Prim.Native.Nat.{ℕ, zero, suc, _+_, _-_, _*_, _/_, _%_, _^_, _≤_, _<_}
 use native.Mathlib.Omega.{arith}
-use native.Mathlib.Nat.{le-refl, div-eq-of-lt, mod-eq-of-lt}
+use native.Mathlib.Nat.{add-zero, le-refl, div-eq-of-lt, mod-eq-of-lt}
 use native.Mathlib.Numerals.{add-one}
 use native.Mathlib.Decide.{decLt}
 use lib.Dec.{eqb, ltb}
 use lib.Bits.{bitOr, or-lt, or-add-and, and-le-l, and-le-r, or-shr, or-mod}
-use lib.Pow.{pow-pos}
+use lib.Pow.{pow-pos, pow-mono}
 use borrow.Author.Tests.{eq-eqb, ne-eqb, lt-ltb, le-ltb}
 use Rattle.loops.specs.Any.{anyBelow}
 use Rattle.loops.proofs.Anys.{any-each, any-some}
-use Rattle.bits.specs.Bit.{hasBit}
+use Rattle.bits.specs.Bit.{bit, hasBit}
 use Rattle.bits.specs.Word.{orBelow}
-use Rattle.bits.proofs.Bits.{hasBit-or, hasBit-nil, bit-ext, bit-of-has}
+use Rattle.bits.proofs.Bits.{hasBit-0, hasBit-or, hasBit-nil, has-of-bit, bit-small, bit-low, bit-high, bit-nil, bit-ext, bit-of-has}
+
+-- ---- two halves of h bits
+
+pub none-from : (m h v : ℕ) → m < 2 ^ h → hasBit m (h + v) ≡ false
+none-from m h v l = let e : h ≤ h + v = omega arith in hasBit-0 m (h + v) (bit-small m (h + v) (omega (arith, pow-mono e)))
+
+module _ (lo hi h : ℕ) where
+  shifted : hi * 2 ^ h ≡ hi * 2 ^ h + 0
+  shifted = sym (add-zero (hi * 2 ^ h))
+
+  pub half-low : (v : ℕ) → v < h → hasBit (bitOr lo (hi * 2 ^ h)) v ≡ hasBit lo v
+  half-low v l =
+      hasBit-or lo (hi * 2 ^ h) v
+      ∙ ap (λ (b : Bool). hasBit lo v || b)
+      (hasBit-0 (hi * 2 ^ h) v (ap (λ (n : ℕ). bit n v) shifted ∙ bit-low hi 0 h v (pow-pos h) l ∙ bit-nil v))
+      ∙ or-false (hasBit lo v)
+
+  pub half-high : (v : ℕ) → hasBit lo (h + v) ≡ false → hasBit (bitOr lo (hi * 2 ^ h)) (h + v) ≡ hasBit hi v
+  half-high v e =
+      hasBit-or lo (hi * 2 ^ h) (h + v)
+      ∙ ap₂ _||_ e (ap (λ (n : ℕ). hasBit n (h + v)) shifted ∙ has-of-bit _ _ (h + v) v (bit-high hi 0 h v (pow-pos h)))
+
+-- ---- a word that is not zero
 
 pub word-some : (n w : ℕ) → w < 2 ^ n → not (eqb w 0) ≡ anyBelow n (hasBit w)
 word-some n w h = go (anyBelow n (hasBit w)) refl

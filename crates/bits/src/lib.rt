@@ -1,6 +1,6 @@
 // Bits of words, and a list of words as a set of bits.
 ghost use mathlib.Core.Path.{_≡_};
-ghost use Prim.Native.Nat.{_+_, _-_, _*_, _/_, _^_, _≤_, _<_};
+ghost use Prim.Native.Nat.{_+_, _-_, _/_, _^_, _≤_, _<_};
 ghost use lib.Bits.{bitAnd};
 ghost use lib.ListN.{length};
 ghost use Rattle.bits.specs.Bit.{hasBit};
@@ -12,13 +12,6 @@ pub fn bit16(k: u32) -> u16
     ensures { λ r. ⌜ r ≡ 2 ^ k ⌝ }
 {
     1u16 << k
-}
-
-// The word of two halves.
-pub fn word(lo: u16, hi: u16) -> u32
-    ensures { λ r. ⌜ r ≡ hi * 2 ^ 16 + lo ⌝ }
-{
-    hi as u32 * 65536 + lo as u32
 }
 
 // The word of n bits from k on.

@@ -17,7 +17,7 @@ use Rattle.loops.specs.Any.{anyBelow}
 use Rattle.bits.specs.Bit.{hasBit}
 use Rattle.bits.specs.Mark.{isSet, mark, unmark}
 use Rattle.plane.specs.Line.{columns}
-use Rattle.units.specs.Memory.{lumaBit}
+use Rattle.units.specs.Masks.{lumaBit}
 use Rattle.edges.specs.Edges.{Grid, lumaGrid, edgeBit, edge}
 use Rattle.correct.specs.declared.Start.{Start}
 use Rattle.correct.specs.Correct.{cleared, corrected, correctLine, done}

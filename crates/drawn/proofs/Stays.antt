@@ -9,7 +9,7 @@ use borrow.Author.Tests.{lt-ltb}
 use Rattle.bits.specs.Mark.{isSet}
 use Rattle.plane.specs.Line.{Pass, columns, rows, Piece, other}
 use Rattle.units.specs.Units.{chromaUnit}
-use Rattle.units.specs.Memory.{lumaBit}
+use Rattle.units.specs.Masks.{lumaBit}
 use Rattle.edges.specs.Edges.{unitsOf, classes, edgeBit}
 use Rattle.mask_edges.specs.Recording.{chromaBits}
 use Rattle.mask_edges.specs.Recording as recording

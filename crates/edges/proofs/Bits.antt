@@ -15,9 +15,9 @@ use Rattle.loops.proofs.Tables.{each-at}
 use Rattle.plane.specs.Line.{Pass, columns, rows, Piece, other, passNo}
 use Rattle.plane.specs.Plane.{right, down}
 use Rattle.units.specs.Frame.{records, frameRecords}
-use Rattle.units.specs.Memory.{halfUnits, lumaBit, chromaBit}
+use Rattle.units.specs.Masks.{halfUnits, lumaBit, chromaBit}
 use Rattle.units.specs.Units.{chromaUnits}
-use Rattle.units.proofs.Places.{by-ss, side-le, luma-bit-inj, chroma-bit-inj, luma-bit-in, chroma-bit-in}
+use Rattle.units.proofs.Places.{by-ss, side-le, pass-lt, luma-bit-inj, chroma-bit-inj, luma-bit-in, chroma-bit-in}
 use Rattle.edges.specs.Edges.{Grid, Proper, ssOf, unitsOf, side, recordAt, classes, bitIn, edgeBit, highest}
 
 -- ---- a bit in its record, b being the kind
@@ -33,10 +33,6 @@ pub class-apart : (G : Grid) (d : Pass) (p : Piece) (c : ℕ) → edgeBit G d p 
 unfolding edgeBit
 class-apart G d p c =
     omega (arith, class-in (G .luma) (ssOf G (other d)) (passNo d) (p .0 % side G d) c (p .1 % side G (other d)))
-
-pass-lt : (d : Pass) → passNo d < 2
-pass-lt columns = omega arith
-pass-lt rows = omega arith
 
 -- the units of a record of a plane
 two-halves : (ss : ℕ) → ss ≤ 1 → 32 / 2 ^ ss ≤ 2 * halfUnits ss

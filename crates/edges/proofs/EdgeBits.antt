@@ -7,7 +7,7 @@ use Rattle.loops.proofs.Lists.{prod-le}
 use Rattle.loops.proofs.Tables.{each-at}
 use Rattle.plane.specs.Line.{Pass, columns, rows, Piece, other, passOf}
 use Rattle.units.specs.Frame.{records, frameRecords}
-use Rattle.units.specs.Memory.{halfUnits, lumaBit, chromaBit}
+use Rattle.units.specs.Masks.{halfUnits, lumaBit, chromaBit}
 use Rattle.units.proofs.Places.{chroma-units-le, luma-bit-in, chroma-bit-in}
 use Rattle.edges.specs.Edges.{Grid, Proper, unitsOf, side, recordAt, bitIn, edgeBit}
 use Rattle.edges.proofs.Bits.{class-apart, edge-bit-in}

@@ -25,7 +25,7 @@ use Rattle.bits.specs.Mark.{isSet}
 use Rattle.plane.specs.Line.{Pass, columns, rows, Piece, other, passNo}
 use Rattle.plane.specs.Plane.{right, down}
 use Rattle.units.specs.Frame.{records}
-use Rattle.units.specs.Memory.{lumaWord, chromaWord, halfUnits, lumaBit, chromaBit}
+use Rattle.units.specs.Masks.{wordOf, halfUnits, lumaBit, chromaBit}
 use Rattle.units.specs.Units.{chromaUnits}
 
 pub record Grid : Type 0 where
@@ -71,7 +71,7 @@ abbrev pub classes : Grid → ℕ
 classes G = cond (G .luma) 3 2
 
 abbrev pub wordIn : Grid → Pass → ℕ → ℕ → ℕ → ℕ
-wordIn G d unit class h = cond (G .luma) (lumaWord (passNo d) unit class h) (chromaWord (passNo d) unit class h)
+wordIn G d unit class h = wordOf (G .luma) d unit class h
 
 abbrev pub bitIn : Grid → Pass → ℕ → ℕ → ℕ → ℕ
 bitIn G d unit class place =

@@ -2,25 +2,25 @@
 use units::ChromaUnit;
 use units::LumaUnit;
 use units::frame::records_along;
-use units::memory::chroma_bit;
-use units::memory::luma_bit;
+use units::masks::chroma_bit;
+use units::masks::luma_bit;
 ghost use mathlib.Core.Path.{_≡_};
 ghost use mathlib.Core.Bool.{cond};
 ghost use Prim.Native.Nat.{ℕ, _+_, _*_, _/_, _^_, _<_, _≤_};
-ghost use Rattle.plane.specs.Line.{passOf};
+ghost use Rattle.plane.specs.Line.{passOf, passNo};
 ghost use Rattle.units.specs.Frame.{records};
-ghost use Rattle.units.specs.Memory.{lumaBit, chromaBit};
+ghost use Rattle.units.specs.Masks.{lumaBit, chromaBit};
 ghost use Rattle.edges.specs.Edges.{gridOf, edgeBit};
 ghost use Rattle.edges.specs.Bit.{Near};
 
-fn bit_in(luma: bool, ss: usize, pass: usize, unit: usize, place: usize) -> usize
-    requires { ⌜ (ss ≤ 1) × (pass < 2) × (unit < 32) × (place < 32 / 2 ^ ss) ⌝ }
-    ensures { λ r. ⌜ r ≡ cond luma (lumaBit pass unit 0 place) (chromaBit ss pass unit 0 place) ⌝ }
+fn bit_in(luma: bool, ss: usize, rowwise: bool, unit: usize, place: usize) -> usize
+    requires { ⌜ (ss ≤ 1) × (unit < 32) × (place < 32 / 2 ^ ss) ⌝ }
+    ensures { λ r. ⌜ r ≡ cond luma (lumaBit (passNo (passOf rowwise)) unit 0 place) (chromaBit ss (passNo (passOf rowwise)) unit 0 place) ⌝ }
 {
     if luma {
-        return luma_bit(pass, LumaUnit(unit), 0, LumaUnit(place));
+        return luma_bit(rowwise, LumaUnit(unit), 0, LumaUnit(place));
     }
-    chroma_bit(ss, pass, ChromaUnit(unit), 0, ChromaUnit(place))
+    chroma_bit(ss, rowwise, ChromaUnit(unit), 0, ChromaUnit(place))
 }
 
 fn record_bit(w4: LumaUnit, right: usize, down: usize) -> usize
@@ -47,8 +47,8 @@ pub fn edge_bit(
     let height = 32 >> ss_ver;
     if rowwise {
         return record_bit(w4, along / width, across / height)
-            + bit_in(luma, ss_hor, 1, across % height, along % width);
+            + bit_in(luma, ss_hor, true, across % height, along % width);
     }
     record_bit(w4, across / width, along / height)
-        + bit_in(luma, ss_ver, 0, across % width, along % height)
+        + bit_in(luma, ss_ver, false, across % width, along % height)
 }

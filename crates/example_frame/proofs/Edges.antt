@@ -15,7 +15,7 @@ use Rattle.plane.specs.Line.{Pass, columns, rows, Piece, other}
 use Rattle.plane.specs.Gap.{Neighbours, Allowed}
 use Rattle.plane.specs.Plane.{class, IsPiece, InRow, Boundary, end}
 use Rattle.plane.proofs.Pieces.{inner-some}
-use Rattle.units.specs.Memory.{lumaBit, chromaBit}
+use Rattle.units.specs.Masks.{lumaBit, chromaBit}
 use Rattle.edges.specs.Edges.{Grid, unitsOf, edge, edgeBit}
 use Rattle.gap.specs.Line.{atLeast}
 use Rattle.gap.proofs.NumbersMean.{edge-in}

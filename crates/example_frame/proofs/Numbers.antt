@@ -12,7 +12,8 @@ use Rattle.loops.proofs.Tables.{each-at}
 use Rattle.bits.specs.Bit.{hasBit}
 use Rattle.bits.specs.Mark.{isSet, mark, marks, Words}
 use Rattle.bits.proofs.Marks.{words-marks}
-use Rattle.units.specs.Memory.{lumaBit, chromaBit, levelAt}
+use Rattle.units.specs.Masks.{lumaBit, chromaBit}
+use Rattle.units.specs.Memory.{levelAt}
 use Rattle.edges.specs.Edges.{edge, edgeBit}
 use Rattle.scans.specs.Scan.{levelsHigh, samplesHigh}
 use Rattle.gap.specs.Line.{lineBroken, clash, clashes, prev, atLeast}

@@ -7,26 +7,23 @@ use Prim.Native.Nat.{ℕ, suc, _+_, _*_, _/_, _^_, _≤_, _<_}
 use native.Mathlib.Nat.{mul-assoc}
 use native.Mathlib.Numerals.{add-one}
 use native.Mathlib.Omega.{arith}
-use lib.Bits.{bitOr}
 use lib.Dec.{eqb}
 use lib.ListN.{getD}
 use borrow.Author.Tests.{eq-eqb, ne-eqb, lt-ltb, le-ltb}
 use Rattle.loops.proofs.Lists.{prod-le}
-use Rattle.plane.specs.Line.{Pass, columns, rows, lineStep, sampleStep, passNo}
+use Rattle.plane.specs.Line.{Pass, columns, rows, lineStep, sampleStep}
 use Rattle.units.specs.Frame.{records}
+use Rattle.units.specs.Masks.{unitWords, passStart, recordRow, twoHalves}
 use Rattle.units.specs.Memory.{levelAt}
 use Rattle.units.specs.Units.{chromaUnit}
 use Rattle.edges.specs.Edges.{half}
-use Rattle.gap.specs.Lines.{recordRow}
-use Rattle.gap.specs.Track.{stepOf, startOf}
-use Rattle.units.proofs.Places.{side-le}
-use Rattle.gap.proofs.Frames.{rows-le, start-in}
+use Rattle.units.proofs.Places.{side-le, rows-le, pass-in}
 use Rattle.gap.proofs.Masks.{along}
 use Rattle.gap.proofs.Shapes.{row-lines}
 use Rattle.filter.specs.declared.Component.{Component}
 use Rattle.filter.specs.declared.lines.UnitLine.{UnitLine}
 use Rattle.filter.specs.Filter.{gridOf, areaOf}
-use Rattle.filter.specs.Lines.{leftOf, topOf, acrossOf, unitIn, maskAt, firstHalf, halvesOf, halvesAt, classAt, wordOf, alongStep, backStep, lineIn, Counted}
+use Rattle.filter.specs.Lines.{leftOf, topOf, acrossOf, unitIn, maskAt, startHalf, halvesOf, halvesAt, classAt, wordOf, alongStep, backStep, lineIn, Counted}
 
 pub left-le : (ss-hor rec : ℕ) → ss-hor ≤ 1 → rec ≤ 128 → rec * (32 / 2 ^ ss-hor) ≤ 4096
 left-le ss-hor rec h l = prod-le rec (32 / 2 ^ ss-hor) 128 32 l (side-le ss-hor h)
@@ -38,9 +35,9 @@ four-of s x y a b p q = rw (p, q) (omega (arith, mul-assoc 4 y s))
 -- ---- halves and classes
 
 module _ (ms : List ℕ) (at first n h : ℕ) where
-  pub two-halves : n ≡ 2 → bitOr (getD ms at 0) (getD ms (at + 1) 0 * 2 ^ h) ≡ halvesAt ms at first n h
+  pub both-halves : n ≡ 2 → twoHalves (getD ms at 0) (getD ms (at + 1) 0) h ≡ halvesAt ms at first n h
   unfolding halvesAt
-  two-halves e = rw (eq-eqb n 2 e) refl
+  both-halves e = rw (eq-eqb n 2 e) refl
 
   pub one-half : n ≢ 2 → getD ms (at + first) 0 ≡ halvesAt ms at first n h
   unfolding halvesAt
@@ -59,10 +56,10 @@ module _ (ms : List ℕ) (luma : Bool) (at first n h class : ℕ) where
   unfolding classAt
   no-class e l = rw (e, le-ltb class 2 l) refl
 
-pub step-luma : (luma : Bool) → luma ≡ true → stepOf luma ≡ 6
+pub step-luma : (luma : Bool) → luma ≡ true → unitWords luma ≡ 6
 step-luma luma e = rw e refl
 
-pub step-chroma : (luma : Bool) → luma ≡ false → stepOf luma ≡ 4
+pub step-chroma : (luma : Bool) → luma ≡ false → unitWords luma ≡ 4
 step-chroma luma e = rw e refl
 
 -- ---- level bytes
@@ -75,30 +72,30 @@ area-chroma plane pass e = rw (ne-eqb plane 0 e, add-one plane) refl
 
 -- ---- masks
 
-pub step-le : (luma : Bool) → stepOf luma ≤ 6
+pub step-le : (luma : Bool) → unitWords luma ≤ 6
 step-le true = omega arith
 step-le false = omega arith
 
-pub units-le : (luma : Bool) (unit : ℕ) → unit ≤ 32 → stepOf luma * unit ≤ 192
-units-le luma unit h = prod-le (stepOf luma) unit 6 32 (step-le luma) h
+pub units-le : (luma : Bool) (unit : ℕ) → unit ≤ 32 → unitWords luma * unit ≤ 192
+units-le luma unit h = prod-le (unitWords luma) unit 6 32 (step-le luma) h
 
 -- ---- a line
 
 module _ (c : Component) (d : Pass) (k rec a : ℕ) where
   pub mask-is : (m unit : ℕ) → unit ≡ unitIn c d k a
-      → m ≡ 640 * (recordRow (c .sb4 .0) k * records (c .w4 .0) + rec) + startOf (eqb (c .plane) 0) (passNo d) + stepOf (eqb (c .plane) 0) * unit
+      → m ≡ 640 * (recordRow (c .sb4 .0) k * records (c .w4 .0) + rec) + passStart (eqb (c .plane) 0) d + unitWords (eqb (c .plane) 0) * unit
       → m ≡ maskAt c d k rec a
   unfolding maskAt
   mask-is m unit eu e =
       e
       ∙ ap (λ (n : ℕ).
-      640 * (recordRow (c .sb4 .0) k * records (c .w4 .0) + rec) + startOf (eqb (c .plane) 0) (passNo d) + stepOf (eqb (c .plane) 0) * n) eu
+      640 * (recordRow (c .sb4 .0) k * records (c .w4 .0) + rec) + passStart (eqb (c .plane) 0) d + unitWords (eqb (c .plane) 0) * n) eu
 
   module _ (len : ℕ) (f : Counted c d k rec a len) where
-    first-le : firstHalf c d k ≤ 1
+    first-le : startHalf c d k ≤ 1
     first-le = go d
       where
-        go : (d : Pass) → firstHalf c d k ≤ 1
+        go : (d : Pass) → startHalf c d k ≤ 1
         go columns = omega arith
         go rows = omega arith
 
@@ -124,31 +121,27 @@ module _ (c : Component) (d : Pass) (k rec a : ℕ) where
         go columns l = (omega (arith, left), omega (arith, top))
         go rows l = (omega (arith, left), omega (arith, top))
 
-    mask-room : maskAt c d k rec a + stepOf (eqb (c .plane) 0) ≤ len
+    mask-room : maskAt c d k rec a + unitWords (eqb (c .plane) 0) ≤ len
     unfolding maskAt
     mask-room =
         omega (
           arith,
           f .masks,
-          start-in (eqb (c .plane) 0) (passNo d) (pass-lt d),
+          pass-in (eqb (c .plane) 0) d,
           room (eqb (c .plane) 0) (unitIn c d k a) unit-lt,
         )
       where
-        pass-lt : (d : Pass) → passNo d < 2
-        pass-lt columns = omega arith
-        pass-lt rows = omega arith
-
-        room : (luma : Bool) (u : ℕ) → u < 32 → stepOf luma * u + stepOf luma ≤ stepOf luma * 32
+        room : (luma : Bool) (u : ℕ) → u < 32 → unitWords luma * u + unitWords luma ≤ unitWords luma * 32
         room true u l = omega arith
         room false u l = omega arith
 
-    pub class-asks : (m first h class : ℕ) → m ≡ maskAt c d k rec a → first ≡ firstHalf c d k → h ≡ half (gridOf c) d → class < 3
-        → (m + stepOf (eqb (c .plane) 0) ≤ len) × (first ≤ 1) × (h ≤ 16) × (class < 3)
+    pub class-asks : (m first h class : ℕ) → m ≡ maskAt c d k rec a → first ≡ startHalf c d k → h ≡ half (gridOf c) d → class < 3
+        → (m + unitWords (eqb (c .plane) 0) ≤ len) × (first ≤ 1) × (h ≤ 16) × (class < 3)
     class-asks m first h class em ef eh l =
         (omega (arith, mask-room, em), omega (arith, first-le, ef), omega (arith, along (gridOf c) (f .proper) d .most, eh), l)
 
   module _ (ms : List ℕ) (x y m first n h : ℕ) (ex : x ≡ leftOf c d rec a) (ey : y ≡ topOf c d k a) (em : m ≡ maskAt c d k rec a)
-      (ef : first ≡ firstHalf c d k) (en : n ≡ halvesOf c d) (eh : h ≡ half (gridOf c) d) where
+      (ef : first ≡ startHalf c d k) (en : n ≡ halvesOf c d) (eh : h ≡ half (gridOf c) d) where
     class-is : (class w : ℕ) → w ≡ classAt ms (eqb (c .plane) 0) m first n h class → w ≡ wordOf c ms d k rec a class
     class-is class w e = e ∙ (λ j. classAt ms (eqb (c .plane) 0) (em j) (ef j) (en j) (eh j) class)
 

@@ -22,7 +22,7 @@ use Rattle.units.specs.Units.{chromaUnit}
 use Rattle.units.proofs.Places.{chroma-units-le, level-in}
 use Rattle.edges.specs.Edges.{unitsOf, side, edge}
 use Rattle.line.specs.Width.{reads}
-use Rattle.gap.specs.Lines.{recordRow}
+use Rattle.units.specs.Masks.{recordRow}
 use Rattle.gap.specs.Numbers.{sbUnits, storedUnits, part}
 use Rattle.gap.specs.Promises.{Nowhere}
 use Rattle.gap.proofs.Shapes.{row-lines, row-halves, units-stored}

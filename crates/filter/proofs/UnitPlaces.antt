@@ -6,10 +6,9 @@ use native.Mathlib.Nat.{mul-assoc, mul-le-mul-right, add-mul}
 use native.Mathlib.Omega.{arith}
 use Rattle.plane.specs.Line.{Pass, columns, rows}
 use Rattle.units.specs.Frame.{records}
-use Rattle.units.specs.Memory.{halfUnits}
+use Rattle.units.specs.Masks.{recordRow, firstLine, halfUnits}
 use Rattle.units.specs.Units.{chromaUnit}
 use Rattle.edges.specs.Edges.{unitsOf, side, half, recordAt}
-use Rattle.gap.specs.Lines.{recordRow, firstLine}
 use Rattle.gap.specs.Promises.{Across, Along}
 use Rattle.units.proofs.Places.{by-ss, side-le}
 use Rattle.gap.proofs.Masks.{along}
@@ -17,7 +16,7 @@ use Rattle.gap.proofs.Shapes.{row-lines, row-halves}
 use Rattle.filter.specs.declared.Component.{Component}
 use Rattle.filter.specs.Filter.{Tables, gridOf}
 use Rattle.filter.specs.Ready.{Stored}
-use Rattle.filter.specs.Lines.{topOf, unitAt, unitIn, firstHalf, halvesOf, Inner}
+use Rattle.filter.specs.Lines.{topOf, unitAt, unitIn, startHalf, halvesOf, Inner}
 
 -- the record of row k and recordUnits rec, by its numbers across the pass and along it
 abbrev pub recAcross : Component → Pass → ℕ → ℕ → ℕ
@@ -41,12 +40,12 @@ pub record Spot (c : Component) (d : Pass) (k rec a : ℕ) : Type 0 where
   pub across : unitAt c d k rec a / side (gridOf c) d ≡ recAcross c d k rec
   pub unit : unitAt c d k rec a % side (gridOf c) d ≡ unitIn c d k a
   pub number : recordAt (gridOf c) d (recAcross c d k rec) (recAlong c d k rec) ≡ recordRow (c .sb4 .0) k * records (c .w4 .0) + rec
-  pub first : (recAlong c d k rec * 2 + firstHalf c d k) * half (gridOf c) d ≡ firstPlace c d k rec
-  pub two : firstHalf c d k + halvesOf c d ≤ 2
+  pub first : (recAlong c d k rec * 2 + startHalf c d k) * half (gridOf c) d ≡ firstPlace c d k rec
+  pub two : startHalf c d k + halvesOf c d ≤ 2
   pub some : 1 ≤ halvesOf c d
   pub many : halvesOf c d * half (gridOf c) d ≡ places c d
   pub mine : Across (gridOf c) d (c .sb4 .0) k (unitAt c d k rec a)
-  pub halves : (j : ℕ) → j < halvesOf c d → Along (gridOf c) d (c .sb4 .0) k (recAlong c d k rec * 2 + (firstHalf c d k + j))
+  pub halves : (j : ℕ) → j < halvesOf c d → Along (gridOf c) d (c .sb4 .0) k (recAlong c d k rec * 2 + (startHalf c d k + j))
   pub inside : unitAt c d k rec a < unitsOf (gridOf c) d
 
 abbrev pub Sizes : ℕ → ℕ → Type 0

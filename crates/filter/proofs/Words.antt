@@ -1,58 +1,41 @@
 -- The words of a line hold its edges: bit v of a class's word is that of the edge at place v, since the halves follow one another and number 12 leaves no bit outside.
 use mathlib.Core.Path.{_≡_, refl, sym, ap, ap₂, _∙_}
-use mathlib.Core.Bool.{Bool, true, false, cond, _||_, or-false}
+use mathlib.Core.Bool.{Bool, true, false, cond, _||_}
 use mathlib.Core.Logic.{_⊎_, inl, inr, _≢_, by-cases}
 use mathlib.Core.Option.{Option, some, none}
 use Prim.Native.Nat.{ℕ, zero, suc, _+_, _-_, _*_, _/_, _%_, _^_, _≤_, _<_}
 use native.Mathlib.Decide.{decLt, ℕ-discrete}
-use native.Mathlib.Nat.{add-zero, div-lt-iff-lt-mul, div-eq-of-lt, mod-eq-of-lt}
+use native.Mathlib.Nat.{div-lt-iff-lt-mul, div-eq-of-lt, mod-eq-of-lt}
 use native.Mathlib.Omega.{arith}
 use lib.Bits.{bitOr}
 use lib.Dec.{eqb}
 use lib.ListN.{getD}
-use lib.Pow.{pow-pos, pow-mono}
+use lib.Pow.{pow-mono}
 use borrow.Author.Tests.{lt-ltb, le-ltb, eq-eqb, ne-eqb}
-use Rattle.bits.specs.Bit.{bit, hasBit}
+use Rattle.bits.specs.Bit.{hasBit}
 use Rattle.bits.specs.Mark.{isSet}
-use Rattle.bits.proofs.Bits.{hasBit-0, hasBit-or, hasBit-nil, has-of-bit, bit-small, bit-low, bit-high, bit-nil}
-use Rattle.plane.specs.Line.{Pass, other, passNo}
+use Rattle.bits.proofs.Bits.{hasBit-0, hasBit-or, hasBit-nil, bit-small}
+use Rattle.bits.proofs.Words.{half-low, half-high}
+use Rattle.plane.specs.Line.{Pass, other}
 use Rattle.units.specs.Frame.{records}
+use Rattle.units.specs.Masks.{unitWords, passStart, recordRow, twoHalves}
+use Rattle.units.proofs.Places.{word-at}
 use Rattle.edges.specs.Edges.{Grid, unitsOf, half, recordAt, classes, wordIn, edgeBit, highest, edge}
-use Rattle.gap.specs.Lines.{recordRow}
 use Rattle.gap.specs.Numbers.{halfBit}
-use Rattle.gap.specs.Track.{stepOf, startOf}
-use Rattle.gap.proofs.Masks.{along, edge-bit, word-in}
+use Rattle.gap.proofs.Masks.{along, edge-bit}
 use Rattle.walk.specs.Walk.{Units, setIn}
 use Rattle.walk.specs.Walk as walk
 use Rattle.filter.specs.declared.Component.{Component}
 use Rattle.filter.specs.Filter.{Tables, gridOf}
 use Rattle.filter.specs.Ready.{Stored, Fit}
-use Rattle.filter.specs.Lines.{unitAt, unitIn, maskAt, firstHalf, halvesOf, halvesAt, classAt, wordOf, lineIn, unitsIn, Inner}
+use Rattle.filter.specs.Lines.{unitAt, unitIn, maskAt, startHalf, halvesOf, halvesAt, classAt, wordOf, lineIn, unitsIn, Inner}
 use Rattle.filter.proofs.UnitPlaces.{recAlong, firstPlace, places, Spot, spot}
-
--- ---- two halves of h bits in one word
 
 -- a half that has no bit from h on
 over : (m h : ℕ) → m < 2 ^ 16 → ((b : ℕ) → h ≤ b → b < 16 → hasBit m b ≡ false) → (v : ℕ) → h ≤ v → hasBit m v ≡ false
 over m h l f v rec =
     by-cases (decLt v 16) (λ x. f v rec x)
     (λ x. let e : 16 ≤ v = omega arith in hasBit-0 m v (bit-small m v (omega (arith, pow-mono {i = 16} {j = v} e))))
-
-shifted : (hi h : ℕ) → hi * 2 ^ h ≡ hi * 2 ^ h + 0
-shifted hi h = sym (add-zero (hi * 2 ^ h))
-
-module _ (lo hi h : ℕ) where
-  low : (v : ℕ) → v < h → hasBit (bitOr lo (hi * 2 ^ h)) v ≡ hasBit lo v
-  low v l =
-      hasBit-or lo (hi * 2 ^ h) v
-      ∙ ap (λ (b : Bool). hasBit lo v || b)
-      (hasBit-0 (hi * 2 ^ h) v (ap (λ (n : ℕ). bit n v) (shifted hi h) ∙ bit-low hi 0 h v (pow-pos h) l ∙ bit-nil v))
-      ∙ or-false (hasBit lo v)
-
-  height : (v : ℕ) → hasBit lo (h + v) ≡ false → hasBit (bitOr lo (hi * 2 ^ h)) (h + v) ≡ hasBit hi v
-  height v e =
-      hasBit-or lo (hi * 2 ^ h) (h + v)
-      ∙ ap₂ _||_ e (ap (λ (n : ℕ). hasBit n (h + v)) (shifted hi h) ∙ has-of-bit _ _ (h + v) v (bit-high hi 0 h v (pow-pos h)))
 
 -- ---- the highest of three classes
 
@@ -91,7 +74,7 @@ module _ (c : Component) (t : Tables) (d : Pass) (k rec a len : ℕ) (s : Stored
   r = recAlong c d k rec
 
   abbrev o : ℕ
-  o = firstHalf c d k
+  o = startHalf c d k
 
   abbrev n : ℕ
   n = halvesOf c d
@@ -114,8 +97,8 @@ module _ (c : Component) (t : Tables) (d : Pass) (k rec a len : ℕ) (s : Stored
   place class j b l =
       let x : (r * 2 + j) / 2 ≡ r = omega arith in
       let y : (r * 2 + j) % 2 ≡ j = omega arith in
-      sum (recordRow (c .sb4 .0) k * records (c .w4 .0) + rec) (startOf (eqb (c .plane) 0) (passNo d)) (stepOf (eqb (c .plane) 0) * unitIn c d k a) class j b
-      ∙ ap₂ (λ (m w : ℕ). 10240 * m + (16 * w + b)) (sym (sp .number)) (sym (word-in G d (unitIn c d k a) class j))
+      sum (recordRow (c .sb4 .0) k * records (c .w4 .0) + rec) (passStart (eqb (c .plane) 0) d) (unitWords (eqb (c .plane) 0) * unitIn c d k a) class j b
+      ∙ ap₂ (λ (m w : ℕ). 10240 * m + (16 * w + b)) (sym (sp .number)) (sym (word-at (eqb (c .plane) 0) d (unitIn c d k a) class j))
       ∙ (λ q. 10240 * recordAt G d (sym (sp .across) q) (sym x q) + (16 * wordIn G d (sym (sp .unit) q) class (sym y q) + b))
     where
       sum : (m start step class j b : ℕ) → 16 * (640 * m + start + step + 2 * class + j) + b ≡ 10240 * m + (16 * (start + step + 2 * class + j) + b)
@@ -167,25 +150,25 @@ module _ (c : Component) (t : Tables) (d : Pass) (k rec a len : ℕ) (s : Stored
             let e : at + o ≡ at + (o + v / h) = omega (arith, div-eq-of-lt x) in
             (λ q. hasBit (getD (t .masks) (e q) 0) (sym (mod-eq-of-lt x) q))
 
-        both : n ≡ 2 → hasBit (cond (eqb n 2) (bitOr (getD (t .masks) at 0) (getD (t .masks) (at + 1) 0 * 2 ^ h)) (getD (t .masks) (at + o) 0)) v
+        both : n ≡ 2 → hasBit (cond (eqb n 2) (twoHalves (getD (t .masks) at 0) (getD (t .masks) (at + 1) 0) h) (getD (t .masks) (at + o) 0)) v
             ≡ hasBit (getD (t .masks) (at + (o + v / h)) 0) (v % h)
         both e =
             let z : at ≡ at + o = omega (arith, sp .two) in
             rw (eq-eqb n 2 e)
             (by-cases (decLt v h)
-            (λ x. low (getD (t .masks) at 0) (getD (t .masks) (at + 1) 0) h v x ∙ ap (λ (w : ℕ). hasBit (getD (t .masks) w 0) v) z ∙ in-first x)
+            (λ x. half-low (getD (t .masks) at 0) (getD (t .masks) (at + 1) 0) h v x ∙ ap (λ (w : ℕ). hasBit (getD (t .masks) w 0) v) z ∙ in-first x)
             (λ x.
             let y : v ≡ h + (v - h) = omega arith in
             let y₁ : v ≡ 1 * h + (v - h) = omega arith in
             let m : v - h < h = omega (arith, ap (λ (w : ℕ). w * h) e) in
             let b = along G (s .proper) d in
             let w : at + 1 ≡ at + (o + v / h) = omega (arith, sp .two, ap (λ (w : ℕ). w / h) y₁ ∙ b .halfNo 1 (v - h) m) in
-            ap (hasBit (bitOr (getD (t .masks) at 0) (getD (t .masks) (at + 1) 0 * 2 ^ h))) y
-            ∙ height (getD (t .masks) at 0) (getD (t .masks) (at + 1) 0) h (v - h)
+            ap (hasBit (twoHalves (getD (t .masks) at 0) (getD (t .masks) (at + 1) 0) h)) y
+            ∙ half-high (getD (t .masks) at 0) (getD (t .masks) (at + 1) 0) h (v - h)
             (ap (λ (w : ℕ). hasBit (getD (t .masks) w 0) (h + (v - h))) (omega (arith, sp .two)) ∙ half-over class 0 lc (omega (arith, sp .some)) (h + (v - h)) (omega arith))
             ∙ (λ q. hasBit (getD (t .masks) (w q) 0) (sym (ap (λ (w : ℕ). w % h) y₁ ∙ b .bit 1 (v - h) m) q))))
 
-        one : n ≢ 2 → hasBit (cond (eqb n 2) (bitOr (getD (t .masks) at 0) (getD (t .masks) (at + 1) 0 * 2 ^ h)) (getD (t .masks) (at + o) 0)) v
+        one : n ≢ 2 → hasBit (cond (eqb n 2) (twoHalves (getD (t .masks) at 0) (getD (t .masks) (at + 1) 0) h) (getD (t .masks) (at + o) 0)) v
             ≡ hasBit (getD (t .masks) (at + (o + v / h)) 0) (v % h)
         one e =
             let z : n ≡ 1 = omega (arith, sp .two, sp .some) in
@@ -195,18 +178,18 @@ module _ (c : Component) (t : Tables) (d : Pass) (k rec a len : ℕ) (s : Stored
     unfolding halvesAt
     word-over v l = by-cases (ℕ-discrete n 2) both one
       where
-        both : n ≡ 2 → hasBit (cond (eqb n 2) (bitOr (getD (t .masks) at 0) (getD (t .masks) (at + 1) 0 * 2 ^ h)) (getD (t .masks) (at + o) 0)) v ≡ false
+        both : n ≡ 2 → hasBit (cond (eqb n 2) (twoHalves (getD (t .masks) at 0) (getD (t .masks) (at + 1) 0) h) (getD (t .masks) (at + o) 0)) v ≡ false
         both e =
             let m : h ≤ v - h = omega (arith, ap (λ (w : ℕ). w * h) e) in
             let y : v ≡ h + (v - h) = omega arith in
             rw (eq-eqb n 2 e)
-            (ap (hasBit (bitOr (getD (t .masks) at 0) (getD (t .masks) (at + 1) 0 * 2 ^ h))) y
-            ∙ height (getD (t .masks) at 0) (getD (t .masks) (at + 1) 0) h (v - h)
+            (ap (hasBit (twoHalves (getD (t .masks) at 0) (getD (t .masks) (at + 1) 0) h)) y
+            ∙ half-high (getD (t .masks) at 0) (getD (t .masks) (at + 1) 0) h (v - h)
             (ap (λ (w : ℕ). hasBit (getD (t .masks) w 0) (h + (v - h))) (omega (arith, sp .two)) ∙ half-over class 0 lc (omega arith) (h + (v - h)) (omega arith))
             ∙ ap (λ (w : ℕ). hasBit (getD (t .masks) w 0) (v - h)) (omega (arith, sp .two))
             ∙ half-over class 1 lc (omega arith) (v - h) m)
 
-        one : n ≢ 2 → hasBit (cond (eqb n 2) (bitOr (getD (t .masks) at 0) (getD (t .masks) (at + 1) 0 * 2 ^ h)) (getD (t .masks) (at + o) 0)) v ≡ false
+        one : n ≢ 2 → hasBit (cond (eqb n 2) (twoHalves (getD (t .masks) at 0) (getD (t .masks) (at + 1) 0) h) (getD (t .masks) (at + o) 0)) v ≡ false
         one e =
             let z : n ≡ 1 = omega (arith, sp .two, sp .some) in
             rw (ne-eqb n 2 e)

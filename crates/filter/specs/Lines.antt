@@ -5,7 +5,7 @@
 --   firstUnit               the first of them that is walked: none is at the frame's start
 --   unitIn                  its unit across the pass in the masks of the record
 --   maskAt                  where its masks start
---   firstHalf, halvesOf     the halves of the row in the record: the first of them, and how many
+--   startHalf, halvesOf     the halves of the row in the record: the first of them, and how many
 --   halvesAt                the word of n halves, h units each, from the first one on; the masks of a class start at `at`
 --   classAt                 that of a class; there is no class 2 in chroma
 --   wordOf                  that of the line
@@ -18,19 +18,17 @@ use mathlib.Core.Path.{_≡_}
 use mathlib.Core.Bool.{Bool, not, cond}
 use mathlib.Core.List.{List}
 use mathlib.Core.Logic.{_⊎_}
-use Prim.Native.Nat.{ℕ, _+_, _*_, _/_, _%_, _^_, _≤_, _<_}
-use lib.Bits.{bitOr}
+use Prim.Native.Nat.{ℕ, _+_, _*_, _/_, _^_, _≤_, _<_}
 use lib.Dec.{eqb, ltb}
 use lib.ListN.{getD}
 use Rattle.loops.specs.Run.{upTo}
-use Rattle.plane.specs.Line.{Pass, columns, rows, lineStep, sampleStep, passNo}
+use Rattle.plane.specs.Line.{Pass, columns, rows, lineStep, sampleStep}
 use Rattle.plane.specs.Plane.{Plane}
 use Rattle.units.specs.Frame.{records}
+use Rattle.units.specs.Masks.{unitWords, passStart, inRecord, recordRow, firstLine, firstHalf, rowUnits, twoHalves}
 use Rattle.units.specs.Memory.{levelAt}
 use Rattle.units.specs.Units.{chromaUnit}
 use Rattle.edges.specs.Edges.{Proper, unitsOf, side, half}
-use Rattle.gap.specs.Lines.{inRecord, recordRow, firstLine, rowUnits}
-use Rattle.gap.specs.Track.{stepOf, startOf}
 use Rattle.walk.specs.Walk.{Units, units}
 use Rattle.filter.specs.declared.Component.{Component}
 use Rattle.filter.specs.declared.lines.UnitLine.{UnitLine}
@@ -66,24 +64,24 @@ unitIn c rows k a = firstLine (c .«ss_ver») (c .sb4 .0) k + a
 
 unfoldable pub maskAt : Component → Pass → ℕ → ℕ → ℕ → ℕ
 maskAt c d k rec a =
-    640 * (recordRow (c .sb4 .0) k * records (c .w4 .0) + rec) + startOf (eqb (c .plane) 0) (passNo d) + stepOf (eqb (c .plane) 0) * unitIn c d k a
+    640 * (recordRow (c .sb4 .0) k * records (c .w4 .0) + rec) + passStart (eqb (c .plane) 0) d + unitWords (eqb (c .plane) 0) * unitIn c d k a
 
-abbrev pub firstHalf : Component → Pass → ℕ → ℕ
-firstHalf c columns k = k * c .sb4 .0 % 32 / 16
-firstHalf c rows k = 0
+abbrev pub startHalf : Component → Pass → ℕ → ℕ
+startHalf c columns k = firstHalf (c .sb4 .0) k
+startHalf c rows k = 0
 
 abbrev pub halvesOf : Component → Pass → ℕ
 halvesOf c columns = c .sb4 .0 / 16
 halvesOf c rows = 2
 
 unfoldable pub halvesAt : List ℕ → ℕ → ℕ → ℕ → ℕ → ℕ
-halvesAt ms at first n h = cond (eqb n 2) (bitOr (getD ms at 0) (getD ms (at + 1) 0 * 2 ^ h)) (getD ms (at + first) 0)
+halvesAt ms at first n h = cond (eqb n 2) (twoHalves (getD ms at 0) (getD ms (at + 1) 0) h) (getD ms (at + first) 0)
 
 unfoldable pub classAt : List ℕ → Bool → ℕ → ℕ → ℕ → ℕ → ℕ → ℕ
 classAt ms luma at first n h class = cond (ltb class (cond luma 3 2)) (halvesAt ms (at + 2 * class) first n h) 0
 
 abbrev pub wordOf : Component → List ℕ → Pass → ℕ → ℕ → ℕ → ℕ → ℕ
-wordOf c ms d k rec a class = classAt ms (eqb (c .plane) 0) (maskAt c d k rec a) (firstHalf c d k) (halvesOf c d) (half (gridOf c) d) class
+wordOf c ms d k rec a class = classAt ms (eqb (c .plane) 0) (maskAt c d k rec a) (startHalf c d k) (halvesOf c d) (half (gridOf c) d) class
 
 abbrev pub alongStep : Component → Pass → ℕ
 alongStep c columns = 4 * c .«level_stride»

@@ -3,18 +3,27 @@ use crate::Component;
 use units::ChromaUnit;
 use units::LumaUnit;
 use units::Sample;
+use units::masks::first_half;
+use units::masks::first_line;
+use units::masks::half_units;
+use units::masks::in_record;
+use units::masks::pass_no;
+use units::masks::record_row;
+use units::masks::record_start;
+use units::masks::row_units;
+use units::masks::two_halves;
+use units::masks::unit_words;
 ghost use mathlib.Core.Path.{_≡_};
 ghost use mathlib.Core.Bool.{cond};
-ghost use Prim.Native.Nat.{suc, _+_, _*_, _/_, _^_, _<_, _≤_};
-ghost use lib.Bits.{bitOr};
+ghost use Prim.Native.Nat.{_+_, _*_, _/_, _^_, _<_, _≤_};
 ghost use lib.Dec.{eqb};
 ghost use lib.ListN.{length};
 ghost use Rattle.plane.specs.Line.{columns, rows, passOf};
 ghost use Rattle.units.specs.Frame.{records};
-ghost use Rattle.units.specs.Memory.{levelAt, halfUnits};
+ghost use Rattle.units.specs.Masks.{unitWords, passStart, recordRow};
+ghost use Rattle.units.specs.Memory.{levelAt};
 ghost use Rattle.units.specs.Units.{chromaUnit};
-ghost use Rattle.gap.specs.Lines.{recordRow};
-ghost use Rattle.gap.specs.Track.{stepOf, startOf};
+ghost use Rattle.filter.specs.Filter.{areaOf};
 ghost use Rattle.filter.specs.Lines.{halvesAt, classAt, firstUnit, unitsAcross, lineIn, Counted};
 
 // What `walk` takes.
@@ -71,46 +80,34 @@ fn sample_at(c: Component, x: usize, y: usize) -> usize
     )
 }
 
-fn level_of(c: Component, pass: usize, x: usize, y: usize) -> usize
-    requires { ⌜ (pass < 2) × (c .plane ≤ 2) × (levelAt (c .«level_stride») x y (cond (eqb (c .plane) 0) pass (suc (c .plane))) < 2 ^ 64) ⌝ }
-    ensures { λ r. ⌜ r ≡ levelAt (c .«level_stride») x y (cond (eqb (c .plane) 0) pass (suc (c .plane))) ⌝ }
+fn level_of(c: Component, rowwise: bool, x: usize, y: usize) -> usize
+    requires { ⌜ (c .plane ≤ 2) × (levelAt (c .«level_stride») x y (areaOf c (passOf rowwise)) < 2 ^ 64) ⌝ }
+    ensures { λ r. ⌜ r ≡ levelAt (c .«level_stride») x y (areaOf c (passOf rowwise)) ⌝ }
 {
     if c.plane == 0 {
-        return units::memory::luma_level_at(c.level_stride, LumaUnit(x), LumaUnit(y), pass);
+        let area = pass_no(rowwise);
+        return units::memory::luma_level_at(c.level_stride, LumaUnit(x), LumaUnit(y), area);
     }
     units::memory::chroma_level_at(c.level_stride, ChromaUnit(x), ChromaUnit(y), c.plane + 1)
-}
-
-fn step_of(luma: bool) -> usize
-    ensures { λ r. ⌜ r ≡ stepOf luma ⌝ }
-{
-    if luma { 6 } else { 4 }
 }
 
 // Where the masks of a unit of record rec start.
 fn mask_at(
     luma: bool,
-    pass: usize,
+    rowwise: bool,
     w4: LumaUnit,
     sb4: LumaUnit,
     k: usize,
     rec: usize,
     unit: usize,
 ) -> usize
-    requires { ⌜ (pass < 2) × (w4 .0 ≤ 4096) × (k * sb4 .0 < 4096) × (rec < records (w4 .0)) × (unit ≤ 32) ⌝ }
-    ensures { λ r. ⌜ r ≡ 640 * (recordRow (sb4 .0) k * records (w4 .0) + rec) + startOf luma pass + stepOf luma * unit ⌝ }
+    requires { ⌜ (w4 .0 ≤ 4096) × (k * sb4 .0 < 4096) × (rec < records (w4 .0)) × (unit ≤ 32) ⌝ }
+    ensures { λ r. ⌜ r ≡ 640 * (recordRow (sb4 .0) k * records (w4 .0) + rec) + passStart luma (passOf rowwise) + unitWords luma * unit ⌝ }
 {
     let records = units::frame::records_along(w4);
-    let row = gap::lines::record_row(sb4, k);
-    let start = gap::track::record_start(luma, pass, row * records + rec);
-    start + step_of(luma) * unit
-}
-
-fn half_units(ss: usize) -> u32
-    requires { ⌜ ss ≤ 1 ⌝ }
-    ensures { λ r. ⌜ r ≡ halfUnits ss ⌝ }
-{
-    16u32 >> ss
+    let row = record_row(sb4, k);
+    let start = record_start(luma, rowwise, row * records + rec);
+    start + unit_words(luma) * unit
 }
 
 fn as_u32(m: u16) -> u32
@@ -119,19 +116,12 @@ fn as_u32(m: u16) -> u32
     m as u32
 }
 
-fn both_halves(lo: u16, hi: u16, h: u32) -> u32
-    requires { ⌜ h ≤ 16 ⌝ }
-    ensures { λ r. ⌜ r ≡ bitOr lo (hi * 2 ^ h) ⌝ }
-{
-    lo as u32 | (hi as u32) << h
-}
-
-fn halves_at(masks: &[u16], at: usize, first: usize, n: usize, h: u32) -> u32
+fn halves_at(masks: &[u16], at: usize, first: usize, n: usize, h: usize) -> u32
     requires { ⌜ (at + 1 < length (now masks)) × (first ≤ 1) × (h ≤ 16) ⌝ }
     ensures { λ r. ⌜ r ≡ halvesAt (now (masks .entry)) at first n h ⌝ }
 {
     if n == 2 {
-        return both_halves(masks[at], masks[at + 1], h);
+        return two_halves(masks[at], masks[at + 1], h);
     }
     as_u32(masks[at + first])
 }
@@ -142,10 +132,10 @@ fn class_at(
     at: usize,
     first: usize,
     n: usize,
-    h: u32,
+    h: usize,
     class: usize,
 ) -> u32
-    requires { ⌜ (at + stepOf luma ≤ length (now masks)) × (first ≤ 1) × (h ≤ 16) × (class < 3) ⌝ }
+    requires { ⌜ (at + unitWords luma ≤ length (now masks)) × (first ≤ 1) × (h ≤ 16) × (class < 3) ⌝ }
     ensures { λ r. ⌜ r ≡ classAt (now (masks .entry)) luma at first n h class ⌝ }
 {
     if luma {
@@ -164,8 +154,8 @@ fn column_line(masks: &[u16], c: Component, k: usize, rec: usize, a: usize) -> U
     let luma = c.plane == 0;
     let x = record_left(c.ss_hor, rec) + a;
     let y = row_top(c.ss_ver, c.sb4, k);
-    let m = mask_at(luma, 0, c.w4, c.sb4, k, rec, a);
-    let first = k * c.sb4.0 % 32 / 16;
+    let m = mask_at(luma, false, c.w4, c.sb4, k, rec, a);
+    let first = first_half(c.sb4, k);
     let n = c.sb4.0 / 16;
     let h = half_units(c.ss_ver);
     let stride = c.stride;
@@ -176,7 +166,7 @@ fn column_line(masks: &[u16], c: Component, k: usize, rec: usize, a: usize) -> U
         m0: class_at(masks, luma, m, first, n, h, 0),
         m1: class_at(masks, luma, m, first, n, h, 1),
         m2: class_at(masks, luma, m, first, n, h, 2),
-        at: level_of(c, 0, x, y),
+        at: level_of(c, false, x, y),
         along: 4 * c.level_stride,
         back: 4,
     }
@@ -189,8 +179,8 @@ fn row_line(masks: &[u16], c: Component, k: usize, rec: usize, a: usize) -> Unit
     let luma = c.plane == 0;
     let x = record_left(c.ss_hor, rec);
     let y = row_top(c.ss_ver, c.sb4, k) + a;
-    let unit = gap::lines::first_line(c.ss_ver, c.sb4, k) + a;
-    let m = mask_at(luma, 1, c.w4, c.sb4, k, rec, unit);
+    let unit = first_line(c.ss_ver, c.sb4, k) + a;
+    let m = mask_at(luma, true, c.w4, c.sb4, k, rec, unit);
     let h = half_units(c.ss_hor);
     let stride = c.stride;
     UnitLine {
@@ -200,7 +190,7 @@ fn row_line(masks: &[u16], c: Component, k: usize, rec: usize, a: usize) -> Unit
         m0: class_at(masks, luma, m, 0, 2, h, 0),
         m1: class_at(masks, luma, m, 0, 2, h, 1),
         m2: class_at(masks, luma, m, 0, 2, h, 2),
-        at: level_of(c, 1, x, y),
+        at: level_of(c, true, x, y),
         along: 4,
         back: 4 * c.level_stride,
     }
@@ -244,8 +234,8 @@ pub fn units_across(c: Component, rowwise: bool, k: usize, rec: usize) -> usize
     ensures { λ r. ⌜ r ≡ unitsAcross c (passOf rowwise) k rec ⌝ }
 {
     if rowwise {
-        return gap::lines::row_units(c.ss_ver, c.h4, c.sb4, k);
+        return row_units(c.ss_ver, c.h4, c.sb4, k);
     }
-    let as_u32 = units::chroma_units(c.w4, c.ss_hor);
-    gap::lines::in_record(32 >> c.ss_hor, as_u32.0, rec)
+    let width = units::chroma_units(c.w4, c.ss_hor);
+    in_record(32 >> c.ss_hor, width.0, rec)
 }

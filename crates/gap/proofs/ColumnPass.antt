@@ -16,15 +16,17 @@ use Rattle.bits.specs.Bit.{hasBit}
 use Rattle.bits.specs.Mark.{isSet}
 use Rattle.plane.specs.Line.{columns, rows}
 use Rattle.units.specs.Frame.{records}
+use Rattle.units.specs.Masks.{unitWords, passStart, recordRow, firstHalf, rowUnits}
+use Rattle.units.proofs.Places.{word-at}
 use Rattle.gap.specs.declared.Both.{Both}
 use Rattle.gap.specs.declared.track.Track.{Track}
 use Rattle.edges.specs.Edges.{Grid, unitsOf, side, half, classes, wordIn, edgeBit, highest, edge, Proper}
 use Rattle.gap.specs.Line.{lineBroken}
-use Rattle.gap.specs.Lines.{lineWord, recordRow, firstHalf, rowUnits}
+use Rattle.gap.specs.Lines.{lineWord}
 use Rattle.gap.specs.Numbers.{sbUnits, storedUnits, gap, halfBit, outside, Found}
-use Rattle.gap.specs.Track.{stepOf, startOf, columnWords, track, Answers}
+use Rattle.gap.specs.Track.{columnWords, track, Answers}
 use Rattle.gap.proofs.Found.{lines-gap, halves-out}
-use Rattle.gap.proofs.Masks.{word-in, class-bit}
+use Rattle.gap.proofs.Masks.{class-bit}
 use Rattle.gap.proofs.Shapes.{RowLines, RowHalves, units-stored}
 
 module _ (G : Grid) (p : Proper G) (ms : List ℕ) (small : (j : ℕ) → getD ms j 0 < 65536) (sb4 k : ℕ)
@@ -46,14 +48,14 @@ module _ (G : Grid) (p : Proper G) (ms : List ℕ) (small : (j : ℕ) → getD m
   m = rowUnits (G .ss-ver) (G .h4) sb4 k
 
   abbrev words : ℕ → ℕ → ℕ
-  words = columnWords ms (G .luma) n (640 * (l * records (G .w4)) + startOf (G .luma) 0 + first) (side G columns)
+  words = columnWords ms (G .luma) n (640 * (l * records (G .w4)) + passStart (G .luma) columns + first) (side G columns)
 
   reads : (u c q : ℕ) → u < storedUnits G → c < 3 → q < 32
       → hasBit (words u c) q ≡ (ltb c (classes G) && (ltb (q / 16) n && isSet ms (halfBit G columns u c (k * n + q / 16) (q % 16))))
   unfolding columnWords halfBit
   reads u c q lu lc lq =
       class-bit ms small n (ah .some) (omega (arith, ah .two)) (G .luma)
-      (640 * (l * records (G .w4)) + startOf (G .luma) 0 + first + 640 * (u / side G columns)) (u % side G columns) c q lc lq
+      (640 * (l * records (G .w4)) + passStart (G .luma) columns + first + 640 * (u / side G columns)) (u % side G columns) c q lc lq
       ∙ ap (λ (x : Bool). ltb c (classes G) && x)
       (by-cases (decLt (q / 16) n) (λ i. ap (λ (x : ℕ). ltb (q / 16) n && isSet ms x) (own i)) (λ i. rw (le-ltb (q / 16) n (omega arith)) refl))
     where
@@ -62,15 +64,15 @@ module _ (G : Grid) (p : Proper G) (ms : List ℕ) (small : (j : ℕ) → getD m
       sum r rec t o s c q = omega arith
 
       own : q / 16 < n
-          → 16 * (640 * (l * records (G .w4)) + startOf (G .luma) 0 + first + 640 * (u / side G columns) + stepOf (G .luma) * (u % side G columns) + 2 * c) + q
+          → 16 * (640 * (l * records (G .w4)) + passStart (G .luma) columns + first + 640 * (u / side G columns) + unitWords (G .luma) * (u % side G columns) + 2 * c) + q
           ≡ 10240 * ((k * n + q / 16) / 2 * records (G .w4) + u / side G columns)
           + (16 * wordIn G columns (u % side G columns) c ((k * n + q / 16) % 2) + q % 16)
       own i =
           let a : l ≡ (k * n + q / 16) / 2 = omega (arith, ah .halfNo, ah .two) in
           let b : first + q / 16 ≡ (k * n + q / 16) % 2 = omega (arith, ah .halfNo, ah .two) in
-          sum (l * records (G .w4)) (u / side G columns) (stepOf (G .luma) * (u % side G columns)) (startOf (G .luma) 0) first c q
+          sum (l * records (G .w4)) (u / side G columns) (unitWords (G .luma) * (u % side G columns)) (passStart (G .luma) columns) first c q
           ∙ ap (λ (x : ℕ). 10240 * (l * records (G .w4) + u / side G columns) + (16 * x + q % 16))
-          (sym (word-in G columns (u % side G columns) c (first + q / 16)))
+          (sym (word-at (G .luma) columns (u % side G columns) c (first + q / 16)))
           ∙ (λ i. 10240 * (a i * records (G .w4) + u / side G columns) + (16 * wordIn G columns (u % side G columns) c (b i) + q % 16))
 
   line-edge : (y u : ℕ) → y < m

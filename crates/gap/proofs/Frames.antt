@@ -3,17 +3,17 @@ use mathlib.Core.Path.{_≡_, sym, ap, _∙_}
 use mathlib.Core.Bool.{Bool, true, false, false≢true}
 use mathlib.Core.List.{List}
 use Prim.Native.Nat.{ℕ, _+_, _-_, _*_, _/_, _^_, _≤_, _<_, min}
-use native.Mathlib.Nat.{add-mul, mul-comm, mul-le-mul-left, mul-le-mul-right, zero-mul, zero-add}
+use native.Mathlib.Nat.{add-mul, mul-comm, mul-le-mul-right, zero-mul, zero-add}
 use native.Mathlib.Omega.{arith}
 use Rattle.loops.proofs.Lists.{prod-le}
+use Rattle.plane.specs.Line.{Pass, columns, rows}
 use Rattle.units.specs.Frame.{records}
-use Rattle.units.specs.Units.{chromaUnit}
-use Rattle.units.proofs.Places.{by-ss, side-le}
+use Rattle.units.specs.Masks.{unitWords, passStart, recordRow}
+use Rattle.units.proofs.Places.{pass-in}
 use Rattle.gap.specs.declared.track.Track.{Track}
 use Rattle.edges.specs.Edges.{chromaGrid, Proper}
 use Rattle.gap.specs.Fits.{MasksFit}
-use Rattle.gap.specs.Lines.{recordRow}
-use Rattle.gap.specs.Track.{stepOf, startOf, classWord, startT, partT, track, columnWords, rowWords}
+use Rattle.gap.specs.Track.{classWord, startT, partT, track, columnWords, rowWords}
 use Rattle.gap.proofs.Cells.{fewer-units}
 use Rattle.gap.proofs.Shapes.{halves, RowLines, row-lines, RowHalves, row-halves}
 use Rattle.gap.proofs.Walks.{part-track}
@@ -26,18 +26,8 @@ proper-chroma ss-hor ss-ver w4 h4 p q =
 
 -- ---- bounds
 
-pub unit-le : (ss n : ℕ) → ss ≤ 1 → chromaUnit ss n ≤ n
-unit-le ss n h = by-ss (λ t. chromaUnit t n ≤ n) (omega arith) (omega arith) ss h
-
-pub rows-le : (ss k sb4 m sb : ℕ) → ss ≤ 1 → k * sb4 < m → sb ≡ chromaUnit ss sb4 → k * sb < m
-rows-le ss k sb4 m sb h l e = rw e (omega (arith, mul-le-mul-left k (unit-le ss sb4 h)))
-
-pub start-in : (luma : Bool) (pass : ℕ) → pass < 2 → startOf luma pass + stepOf luma * 32 ≤ 640
-start-in true pass h = omega arith
-start-in false pass h = omega arith
-
 -- columns are not the last in a record
-columns-in : (luma : Bool) → startOf luma 0 + stepOf luma * 32 < 640
+columns-in : (luma : Bool) → passStart luma columns + unitWords luma * 32 < 640
 columns-in true = omega arith
 columns-in false = omega arith
 
@@ -65,16 +55,16 @@ module _ (q R l records : ℕ) (el : l ≡ q) (eg : records ≡ R) where
   records-small a b = prod-le l records 127 128 (omega arith) (omega arith)
 
   -- where a pass starts there
-  pub record-place : (luma : Bool) (pass rec at : ℕ) → at ≡ 640 * (l * records + rec) + startOf luma pass → at ≡ 640 * (q * R + rec) + startOf luma pass
-  record-place luma pass rec at e = e ∙ (λ i. 640 * (el i * eg i + rec) + startOf luma pass)
+  pub record-place : (luma : Bool) (d : Pass) (rec at : ℕ) → at ≡ 640 * (l * records + rec) + passStart luma d → at ≡ 640 * (q * R + rec) + passStart luma d
+  record-place luma d rec at e = e ∙ (λ i. 640 * (el i * eg i + rec) + passStart luma d)
 
-  pub columns-fit : (luma : Bool) (len at first : ℕ) → 640 * ((q + 1) * R) ≤ len → at ≡ 640 * (l * records) + startOf luma 0 → first < 2
-      → at + first + 640 * records + stepOf luma * 32 ≤ len + 640
+  pub columns-fit : (luma : Bool) (len at first : ℕ) → 640 * ((q + 1) * R) ≤ len → at ≡ 640 * (l * records) + passStart luma columns → first < 2
+      → at + first + 640 * records + unitWords luma * 32 ≤ len + 640
   columns-fit luma len at first h e f = rw (e, el, eg) (omega (arith, add-mul q 1 R, columns-in luma))
 
-  pub rows-fit : (luma : Bool) (len rec at m : ℕ) → 640 * (q * R + rec) + 640 ≤ len → at ≡ 640 * (l * records + rec) + startOf luma 1 → m ≤ 32
-      → at + stepOf luma * m ≤ len
-  rows-fit luma len rec at m h e lm = fewer-units luma at m 32 len lm (rw (e, el, eg) (omega (arith, start-in luma 1 (omega arith))))
+  pub rows-fit : (luma : Bool) (len rec at m : ℕ) → 640 * (q * R + rec) + 640 ≤ len → at ≡ 640 * (l * records + rec) + passStart luma rows → m ≤ 32
+      → at + unitWords luma * m ≤ len
+  rows-fit luma len rec at m h e lm = fewer-units luma at m 32 len lm (rw (e, el, eg) (omega (arith, pass-in luma rows)))
 
 -- ---- the walks
 

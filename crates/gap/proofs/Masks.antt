@@ -3,7 +3,7 @@ use mathlib.Core.Path.{_≡_, refl, sym, ap, ap₂, _∙_}
 use mathlib.Core.Bool.{Bool, true, false, _&&_, cond}
 use mathlib.Core.List.{List}
 use mathlib.Core.Logic.{by-cases}
-use Prim.Native.Nat.{ℕ, _+_, _-_, _*_, _/_, _%_, _^_, _≤_, _<_}
+use Prim.Native.Nat.{ℕ, _+_, _-_, _*_, _/_, _%_, _≤_, _<_}
 use native.Mathlib.Decide.{decLt, ℕ-discrete}
 use native.Mathlib.Omega.{arith}
 use lib.Dec.{eqb, ltb}
@@ -11,12 +11,13 @@ use lib.ListN.{getD}
 use borrow.Author.Tests.{eq-eqb, ne-eqb, lt-ltb, le-ltb, ltb-true}
 use Rattle.bits.specs.Bit.{hasBit}
 use Rattle.bits.specs.Mark.{isSet}
-use Rattle.bits.proofs.Bits.{has-of-bit, bit-low, bit-high, hasBit-nil}
+use Rattle.bits.proofs.Bits.{hasBit-nil}
+use Rattle.bits.proofs.Words.{none-from, half-low, half-high}
 use Rattle.plane.specs.Line.{Pass, columns, rows, other, passNo}
-use Rattle.units.specs.Memory.{lumaWord, chromaWord, lumaBit, chromaBit, halfUnits}
+use Rattle.units.specs.Masks.{unitWords, twoHalves, lumaWord, chromaWord, lumaBit, chromaBit, halfUnits}
 use Rattle.edges.specs.Edges.{Grid, ssOf, unitsOf, side, half, recordAt, wordIn, bitIn, edgeBit, Proper}
 use Rattle.gap.specs.Numbers.{halfBit, fits}
-use Rattle.gap.specs.Track.{wordAt, stepOf, startOf, classWord}
+use Rattle.gap.specs.Track.{wordAt, classWord}
 use Rattle.loops.proofs.Bools.{both-true}
 use Rattle.gap.proofs.Shapes.{Halves, halves}
 
@@ -55,14 +56,7 @@ module _ (G : Grid) (p : Proper G) where
       ∙ ap (λ (y : ℕ). 16 * wordIn G d (u % side G d) c (y / half G d) + y % half G d) (h .place j b l)
       ∙ (λ i. 16 * wordIn G d (u % side G d) c (h .halfNo (j % 2) b l i) + h .bit (j % 2) b l i))
 
--- ---- the word of a half, as the walk counts
-
-pub word-in : (G : Grid) (d : Pass) (unit c h : ℕ) → wordIn G d unit c h ≡ startOf (G .luma) (passNo d) + stepOf (G .luma) * unit + 2 * c + h
-word-in G d unit c h = go (G .luma) refl
-  where
-    go : (b : Bool) → G .luma ≡ b → wordIn G d unit c h ≡ startOf (G .luma) (passNo d) + stepOf (G .luma) * unit + 2 * c + h
-    go true e = rw e (omega arith)
-    go false e = rw e (omega arith)
+-- ---- the word of a half, as the walk reads it
 
 module _ (ms : List ℕ) (small : (j : ℕ) → getD ms j 0 < 65536) (halves : ℕ) (some : 0 < halves) (two : halves ≤ 2) where
   word-bit : (i q : ℕ) → q < 32 → hasBit (wordAt ms halves i) q ≡ (ltb (q / 16) halves && isSet ms (16 * i + q))
@@ -72,12 +66,12 @@ module _ (ms : List ℕ) (small : (j : ℕ) → getD ms j 0 < 65536) (halves : �
       hi : ℕ
       hi = cond (eqb halves 2) (getD ms (i + 1) 0) 0
 
-      low : q < 16 → hasBit (hi * 2 ^ 16 + getD ms i 0) q ≡ (ltb (q / 16) halves && isSet ms (16 * i + q))
+      low : q < 16 → hasBit (twoHalves (getD ms i 0) hi 16) q ≡ (ltb (q / 16) halves && isSet ms (16 * i + q))
       low p =
           let d : i ≡ (16 * i + q) / 16 = omega arith in
           let m : q ≡ (16 * i + q) % 16 = omega arith in
           rw (lt-ltb (q / 16) halves (omega arith))
-          (has-of-bit _ _ q q (bit-low hi (getD ms i 0) 16 q (small i) p) ∙ (λ t. hasBit (getD ms (d t) 0) (m t)))
+          (half-low (getD ms i 0) hi 16 q p ∙ (λ t. hasBit (getD ms (d t) 0) (m t)))
 
       up : ¬ (q < 16) → Dec (halves ≡ 2) → hasBit hi (q - 16) ≡ (ltb (q / 16) halves && isSet ms (16 * i + q))
       up p (yes e) =
@@ -86,17 +80,17 @@ module _ (ms : List ℕ) (small : (j : ℕ) → getD ms j 0 < 65536) (halves : �
           rw (eq-eqb halves 2 e, lt-ltb (q / 16) halves (omega arith)) (λ t. hasBit (getD ms (d t) 0) (m t))
       up p (no e) = rw (ne-eqb halves 2 e, le-ltb (q / 16) halves (omega arith)) (hasBit-nil (q - 16))
 
-      height : ¬ (q < 16) → hasBit (hi * 2 ^ 16 + getD ms i 0) q ≡ (ltb (q / 16) halves && isSet ms (16 * i + q))
+      height : ¬ (q < 16) → hasBit (twoHalves (getD ms i 0) hi 16) q ≡ (ltb (q / 16) halves && isSet ms (16 * i + q))
       height p =
           let e : q ≡ 16 + (q - 16) = omega arith in
-          ap (hasBit (hi * 2 ^ 16 + getD ms i 0)) e
-          ∙ has-of-bit _ _ (16 + (q - 16)) (q - 16) (bit-high hi (getD ms i 0) 16 (q - 16) (small i))
+          ap (hasBit (twoHalves (getD ms i 0) hi 16)) e
+          ∙ half-high (getD ms i 0) hi 16 (q - 16) (none-from (getD ms i 0) 16 (q - 16) (small i))
           ∙ up p (ℕ-discrete halves 2)
 
   -- bit q of the word of class c at unit i
   pub class-bit : (luma : Bool) (at i c q : ℕ) → c < 3 → q < 32
       → hasBit (classWord ms luma halves at i c) q
-      ≡ (ltb c (cond luma 3 2) && (ltb (q / 16) halves && isSet ms (16 * (at + stepOf luma * i + 2 * c) + q)))
+      ≡ (ltb c (cond luma 3 2) && (ltb (q / 16) halves && isSet ms (16 * (at + unitWords luma * i + 2 * c) + q)))
   unfolding classWord
   class-bit true at i c q l h = rw (lt-ltb c 3 l) (word-bit (at + 6 * i + 2 * c) q h)
   class-bit false at i c q l h = go (ltb c 2)

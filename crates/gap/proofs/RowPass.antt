@@ -17,15 +17,17 @@ use Rattle.bits.specs.Bit.{hasBit}
 use Rattle.bits.specs.Mark.{isSet}
 use Rattle.plane.specs.Line.{columns, rows}
 use Rattle.units.specs.Frame.{records}
+use Rattle.units.specs.Masks.{unitWords, passStart, inRecord, recordRow, firstLine, rowUnits}
+use Rattle.units.proofs.Places.{word-at}
 use Rattle.gap.specs.declared.Both.{Both}
 use Rattle.gap.specs.declared.track.Track.{Track}
 use Rattle.edges.specs.Edges.{Grid, unitsOf, side, half, classes, wordIn, edgeBit, highest, edge, Proper}
 use Rattle.gap.specs.Line.{lineBroken}
-use Rattle.gap.specs.Lines.{lineWord, inRecord, recordRow, firstLine, rowUnits}
+use Rattle.gap.specs.Lines.{lineWord}
 use Rattle.gap.specs.Numbers.{sbUnits, part, gap, halfBit, badHalf, outside, Found, RecordFound}
-use Rattle.gap.specs.Track.{stepOf, startOf, rowWords, track, Answers}
+use Rattle.gap.specs.Track.{rowWords, track, Answers}
 use Rattle.gap.proofs.Found.{lines-gap, halves-out}
-use Rattle.gap.proofs.Masks.{along, word-in, class-bit}
+use Rattle.gap.proofs.Masks.{along, class-bit}
 use Rattle.gap.proofs.Runs.{iff}
 use Rattle.gap.proofs.Shapes.{RowLines, units-stored, record-starts}
 
@@ -50,7 +52,7 @@ module _ (G : Grid) (p : Proper G) (ms : List ℕ) (small : (j : ℕ) → getD m
   m = inRecord (side G columns) (unitsOf G columns) rec
 
   abbrev words : ℕ → ℕ → ℕ
-  words = rowWords ms (G .luma) (640 * (l * records (G .w4) + rec) + startOf (G .luma) 1) first
+  words = rowWords ms (G .luma) (640 * (l * records (G .w4) + rec) + passStart (G .luma) rows) first
 
   reads : (u c q : ℕ) → u < sb → c < 3 → q < 32
       → hasBit (words u c) q ≡ (ltb c (classes G) && (ltb (q / 16) 2 && isSet ms (halfBit G rows (k * sb + u) c (rec * 2 + q / 16) (q % 16))))
@@ -62,10 +64,10 @@ module _ (G : Grid) (p : Proper G) (ms : List ℕ) (small : (j : ℕ) → getD m
       let i : first + u < side G rows = omega (arith, at .room) in
       let e : (k * sb + u) / side G rows ≡ l = ap (λ (v : ℕ). v / side G rows) y ∙ along G p columns .of-record l (first + u) i in
       let f : (k * sb + u) % side G rows ≡ first + u = ap (λ (v : ℕ). v % side G rows) y ∙ along G p columns .in-record l (first + u) i in
-      class-bit ms small 2 (omega arith) (omega arith) (G .luma) (640 * (l * records (G .w4) + rec) + startOf (G .luma) 1) (first + u) c q lc lq
+      class-bit ms small 2 (omega arith) (omega arith) (G .luma) (640 * (l * records (G .w4) + rec) + passStart (G .luma) rows) (first + u) c q lc lq
       ∙ ap (λ (x : ℕ). ltb c (classes G) && (ltb (q / 16) 2 && isSet ms x))
-      (sum (l * records (G .w4)) rec (stepOf (G .luma) * (first + u)) (startOf (G .luma) 1) c q
-      ∙ ap (λ (x : ℕ). 10240 * (l * records (G .w4) + rec) + (16 * x + q % 16)) (sym (word-in G rows (first + u) c (q / 16)))
+      (sum (l * records (G .w4)) rec (unitWords (G .luma) * (first + u)) (passStart (G .luma) rows) c q
+      ∙ ap (λ (x : ℕ). 10240 * (l * records (G .w4) + rec) + (16 * x + q % 16)) (sym (word-at (G .luma) rows (first + u) c (q / 16)))
       ∙ (λ t. 10240 * (sym e t * records (G .w4) + sym a t) + (16 * wordIn G rows (sym f t) c (sym b t) + q % 16)))
     where
       sum : (r rec t o c q : ℕ) → 16 * (640 * (r + rec) + o + t + 2 * c) + q ≡ 10240 * (r + rec) + (16 * (o + t + 2 * c + q / 16) + q % 16)

@@ -7,13 +7,16 @@ use native.Mathlib.Nat.{zero-mul, one-mul, zero-add, add-zero}
 use native.Mathlib.Decide.{decLt}
 use native.Mathlib.Omega.{arith}
 use lib.Dec.{ltb}
+use lib.Bits.{or-lt}
 use lib.Pow.{pow-mono}
 use borrow.Author.Tests.{lt-ltb, le-leb, ltb-true}
 use Rattle.loops.specs.Any.{anyBelow}
 use Rattle.loops.proofs.Anys.{any-some, any-true, any-split}
 use Rattle.loops.proofs.Bools.{both-true}
 use Rattle.bits.specs.Bit.{hasBit}
-use Rattle.bits.proofs.Bits.{has-of-bit, bit-low, bit-high, hasBit-run}
+use Rattle.bits.proofs.Bits.{hasBit-run}
+use Rattle.bits.proofs.Words.{none-from, half-low, half-high}
+use Rattle.units.specs.Masks.{twoHalves}
 use Rattle.gap.specs.Lines.{bitOf, lineBit, lineWord}
 use Rattle.gap.proofs.Shapes.{Halves}
 
@@ -51,7 +54,7 @@ module _ (h n : ℕ) (h1 : h ≤ 16) (h2 : n ≤ 2 * h) where
 
   pub line-lt : lineWord h n < 2 ^ 32
   unfolding lineWord
-  line-lt = let e : n - h ≤ 16 = omega arith in omega (arith, low-run, pow-mono e)
+  line-lt = let e : n - h ≤ 16 = omega arith in or-lt 32 (2 ^ min n h - 1) ((2 ^ (n - h) - 1) * 2 ^ 16) (omega (arith, low-run)) (omega (arith, pow-mono e))
 
   low-place : (q : ℕ) → q < 16 → q / 16 * h + q % 16 ≡ q
   low-place q l = let e : q / 16 ≡ 0 = omega arith in ap (λ (k : ℕ). k * h + q % 16) e ∙ omega (arith, zero-mul h)
@@ -76,11 +79,11 @@ module _ (h n : ℕ) (h1 : h ≤ 16) (h2 : n ≤ 2 * h) where
   pub has-line : (q : ℕ) → q < 32 → hasBit (lineWord h n) q ≡ lineBit h n q
   unfolding lineWord
   has-line q l =
-      by-cases (decLt q 16) (λ p. has-of-bit _ _ q q (bit-low (2 ^ (n - h) - 1) (2 ^ min n h - 1) 16 q low-run p) ∙ low-bit q p)
+      by-cases (decLt q 16) (λ p. half-low (2 ^ min n h - 1) (2 ^ (n - h) - 1) 16 q p ∙ low-bit q p)
       (λ p.
       let e : q ≡ 16 + (q - 16) = omega arith in
-      ap (hasBit ((2 ^ (n - h) - 1) * 2 ^ 16 + (2 ^ min n h - 1))) e
-      ∙ has-of-bit _ _ (16 + (q - 16)) (q - 16) (bit-high (2 ^ (n - h) - 1) (2 ^ min n h - 1) 16 (q - 16) low-run)
+      ap (hasBit (twoHalves (2 ^ min n h - 1) (2 ^ (n - h) - 1) 16)) e
+      ∙ half-high (2 ^ min n h - 1) (2 ^ (n - h) - 1) 16 (q - 16) (none-from (2 ^ min n h - 1) 16 (q - 16) low-run)
       ∙ high-bit q (omega arith) l)
 
 -- ---- bits and lines
@@ -142,6 +145,6 @@ any-first n m f l =
 pub run-fits : (n : ℕ) → n ≤ 16 → 2 ^ n - 1 < 2 ^ 16
 run-fits n l = omega (arith, pow-mono l)
 
-pub word-make : (h n a b lo hi r : ℕ) → a ≡ min n h → b ≡ n - h → lo ≡ 2 ^ a - 1 → hi ≡ 2 ^ b - 1 → r ≡ hi * 2 ^ 16 + lo → r ≡ lineWord h n
+pub word-make : (h n a b lo hi r : ℕ) → a ≡ min n h → b ≡ n - h → lo ≡ 2 ^ a - 1 → hi ≡ 2 ^ b - 1 → r ≡ twoHalves lo hi 16 → r ≡ lineWord h n
 unfolding lineWord
-word-make h n a b lo hi r ea eb el eh e = e ∙ ap₂ (λ (x y : ℕ). x * 2 ^ 16 + y) (eh ∙ (λ i. 2 ^ eb i - 1)) (el ∙ (λ i. 2 ^ ea i - 1))
+word-make h n a b lo hi r ea eb el eh e = e ∙ ap₂ (λ (x y : ℕ). twoHalves x y 16) (el ∙ (λ i. 2 ^ ea i - 1)) (eh ∙ (λ i. 2 ^ eb i - 1))

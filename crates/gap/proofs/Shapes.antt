@@ -4,10 +4,9 @@ use mathlib.Core.Logic.{_⊎_, ⊎-elim}
 use Prim.Native.Nat.{ℕ, _+_, _*_, _/_, _%_, _^_, _≤_, _<_}
 use native.Mathlib.Omega.{arith}
 use Rattle.units.specs.Frame.{records}
-use Rattle.units.specs.Memory.{halfUnits}
 use Rattle.units.specs.Units.{chromaUnit, chromaUnits}
 use Rattle.units.proofs.Places.{by-ss}
-use Rattle.gap.specs.Lines.{recordRow, firstLine, firstHalf}
+use Rattle.units.specs.Masks.{recordRow, firstLine, firstHalf, halfUnits}
 
 by-sb : (P : ℕ → Type 0) → P 16 → P 32 → (sb4 : ℕ) → (sb4 ≡ 16) ⊎ (sb4 ≡ 32) → P sb4
 by-sb P p q sb4 = ⊎-elim (λ e. subst P (sym e) p) (λ e. subst P (sym e) q)

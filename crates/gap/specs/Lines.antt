@@ -1,17 +1,13 @@
 -- The lines of units of superblock row k, as the code counts them: in the bits of a mask's two halves, of which each holds h lines.
 --   bitOf                        the bit of line y, counted from the word's first half
 --   lineBit, lineWord            bit q is that of one of the first n lines; the word of those bits
---   inRecord                     the units of record rec, `side` a record, of a plane that has n
---   recordRow                    the record row of superblock row k
---   firstLine, firstHalf         its first line and its first half there
---   rowUnits                     its lines in the frame
---   rowLines                     the bits of its lines in the frame, from its first half on
+--   rowLines                     the bits of the row's lines in the frame, from its first half on
 --   recordLines                  those of the lines of record rec
 use mathlib.Core.Bool.{Bool, _&&_}
 use Prim.Native.Nat.{ℕ, _+_, _-_, _*_, _/_, _%_, _^_, min}
 use lib.Dec.{ltb}
-use Rattle.units.specs.Memory.{halfUnits}
-use Rattle.units.specs.Units.{chromaUnit, chromaUnits}
+use Rattle.units.specs.Masks.{inRecord, rowUnits, twoHalves, halfUnits}
+use Rattle.units.specs.Units.{chromaUnits}
 
 unfoldable pub bitOf : ℕ → ℕ → ℕ
 bitOf h y = 16 * (y / h) + y % h
@@ -20,22 +16,7 @@ unfoldable pub lineBit : ℕ → ℕ → ℕ → Bool
 lineBit h n q = ltb (q % 16) h && ltb (q / 16 * h + q % 16) n
 
 unfoldable pub lineWord : ℕ → ℕ → ℕ
-lineWord h n = (2 ^ (n - h) - 1) * 2 ^ 16 + (2 ^ min n h - 1)
-
-abbrev pub inRecord : ℕ → ℕ → ℕ → ℕ
-inRecord side n rec = min side (n - rec * side)
-
-abbrev pub recordRow : ℕ → ℕ → ℕ
-recordRow sb4 k = k * sb4 / 32
-
-abbrev pub firstLine : ℕ → ℕ → ℕ → ℕ
-firstLine ss sb4 k = k * sb4 % 32 / 2 ^ ss
-
-abbrev pub firstHalf : ℕ → ℕ → ℕ
-firstHalf sb4 k = k * sb4 % 32 / 16
-
-abbrev pub rowUnits : ℕ → ℕ → ℕ → ℕ → ℕ
-rowUnits ss h4 sb4 k = min (chromaUnit ss sb4) (chromaUnits ss h4 - k * chromaUnit ss sb4)
+lineWord h n = twoHalves (2 ^ min n h - 1) (2 ^ (n - h) - 1) 16
 
 abbrev pub rowLines : ℕ → ℕ → ℕ → ℕ → ℕ
 rowLines ss h4 sb4 k = lineWord (halfUnits ss) (rowUnits ss h4 sb4 k)

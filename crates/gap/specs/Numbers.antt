@@ -20,11 +20,11 @@ use Rattle.loops.specs.Any.{anyBelow}
 use Rattle.bits.specs.Mark.{isSet}
 use Rattle.plane.specs.Line.{Pass, columns, rows, other}
 use Rattle.units.specs.Frame.{records}
+use Rattle.units.specs.Masks.{inRecord}
 use Rattle.units.specs.Units.{chromaUnit}
 use Rattle.gap.specs.declared.Both.{Both}
 use Rattle.edges.specs.Edges.{Grid, unitsOf, side, half, recordAt, classes, wordIn, edge}
 use Rattle.gap.specs.Line.{lineBroken}
-use Rattle.gap.specs.Lines.{inRecord}
 
 abbrev pub sbUnits : Grid → ℕ → ℕ
 sbUnits G sb4 = chromaUnit (G .ss-ver) sb4

@@ -1,6 +1,5 @@
 -- What the walk along the units of a line keeps, for 32 lines at once: bit q of a word is line q.
 --   wordAt              the word of the half at place i, or of the two halves from there on
---   stepOf, startOf     the words from a unit to the next, and those before a pass's first unit in a record
 --   classWord           the word of class c at unit i, where the first half of unit 0 stands at `at`; there is no class 2 in chroma
 --   clashW              `clashes` of words
 --   startT, stepT       the state before the first unit; and one unit further, whose classes have the words x, y, b, and z past the frame
@@ -21,24 +20,19 @@ use lib.Bits.{bitAnd, bitOr}
 use lib.Dec.{eqb, ltb}
 use lib.ListN.{getD}
 use Rattle.loops.specs.Run.{upTo}
+use Rattle.plane.specs.Line.{columns, rows}
 use Rattle.units.specs.Frame.{records}
+use Rattle.units.specs.Masks.{unitWords, passStart, recordRow, firstLine, firstHalf, rowUnits, twoHalves}
 use Rattle.units.specs.Units.{chromaUnit, chromaUnits}
 use Rattle.gap.specs.declared.Both.{Both}
 use Rattle.gap.specs.declared.track.Track.{Track}
-use Rattle.gap.specs.Lines.{recordRow, firstLine, firstHalf, rowUnits}
 
 unfoldable pub wordAt : List ℕ → ℕ → ℕ → ℕ
-wordAt ms halves i = cond (eqb halves 2) (getD ms (i + 1) 0) 0 * 2 ^ 16 + getD ms i 0
-
-abbrev pub stepOf : Bool → ℕ
-stepOf luma = cond luma 6 4
-
-abbrev pub startOf : Bool → ℕ → ℕ
-startOf luma pass = cond luma (192 * pass) (384 + 128 * pass)
+wordAt ms halves i = twoHalves (getD ms i 0) (cond (eqb halves 2) (getD ms (i + 1) 0) 0) 16
 
 unfoldable pub classWord : List ℕ → Bool → ℕ → ℕ → ℕ → ℕ → ℕ
 classWord ms luma halves at i c =
-    cond luma (wordAt ms halves (at + 6 * i + 2 * c)) (cond (ltb c 2) (wordAt ms halves (at + 4 * i + 2 * c)) 0)
+    cond (ltb c (cond luma 3 2)) (wordAt ms halves (at + unitWords luma * i + 2 * c)) 0
 
 unfoldable pub clashW : ℕ → ℕ → ℕ → ℕ → ℕ → ℕ → ℕ → ℕ → ℕ → ℕ
 clashW m a b m1 m2 m3 a1 b2 b3 = bitOr (bitOr (bitAnd m (bitOr (bitOr a1 b2) b3)) (bitAnd m1 a)) (bitAnd (bitOr m2 m3) b)
@@ -99,12 +93,12 @@ rowWords ms luma at from u c = classWord ms luma 2 at (from + u) c
 
 abbrev pub columnTrack : List ℕ → Bool → ℕ → ℕ → ℕ → ℕ → Track
 columnTrack ms luma ss w4 sb4 k =
-    track (columnWords ms luma (sb4 / 16) (640 * (recordRow sb4 k * records w4) + startOf luma 0 + firstHalf sb4 k) (32 / 2 ^ ss)) (chromaUnits ss w4)
+    track (columnWords ms luma (sb4 / 16) (640 * (recordRow sb4 k * records w4) + passStart luma columns + firstHalf sb4 k) (32 / 2 ^ ss)) (chromaUnits ss w4)
     (records w4 * (32 / 2 ^ ss))
 
 abbrev pub rowTrack : List ℕ → Bool → ℕ → ℕ → ℕ → ℕ → ℕ → ℕ → Track
 rowTrack ms luma ss w4 h4 sb4 k rec =
-    track (rowWords ms luma (640 * (recordRow sb4 k * records w4 + rec) + startOf luma 1) (firstLine ss sb4 k)) (rowUnits ss h4 sb4 k)
+    track (rowWords ms luma (640 * (recordRow sb4 k * records w4 + rec) + passStart luma rows) (firstLine ss sb4 k)) (rowUnits ss h4 sb4 k)
     (chromaUnit ss sb4)
 
 pub record Answers (t : Track) (live : ℕ) (r : Both) : Type 0 where

@@ -4,18 +4,26 @@ pub mod track;
 
 use track::Track;
 use units::LumaUnit;
+use units::masks::first_half;
+use units::masks::first_line;
+use units::masks::half_units;
+use units::masks::in_record;
+use units::masks::record_row;
+use units::masks::record_start;
+use units::masks::row_units;
 ghost use mathlib.Core.Path.{_≡_};
 ghost use mathlib.Core.Logic.{_⊎_};
 ghost use Prim.Native.Nat.{_+_, _*_, _/_, _^_, _≤_, _<_};
 ghost use lib.ListN.{length};
 ghost use Rattle.plane.specs.Line.{columns, rows};
 ghost use Rattle.units.specs.Frame.{records};
+ghost use Rattle.units.specs.Masks.{unitWords, recordRow};
 ghost use Rattle.edges.specs.Edges.{gridOf, lumaGrid, chromaGrid, Proper};
 ghost use Rattle.gap.specs.Fits.{MasksFit};
-ghost use Rattle.gap.specs.Lines.{recordRow, rowLines, recordLines};
+ghost use Rattle.gap.specs.Lines.{rowLines, recordLines};
 ghost use Rattle.gap.specs.Numbers.{Found, RecordFound};
 ghost use Rattle.gap.specs.Promises.{Promises};
-ghost use Rattle.gap.specs.Track.{stepOf, track, columnWords, columnTrack, rowTrack, Answers};
+ghost use Rattle.gap.specs.Track.{track, columnWords, columnTrack, rowTrack, Answers};
 
 // Numbers 11 and 12.
 pub struct Both {
@@ -43,13 +51,13 @@ fn columns_walk(
     width: usize,
     records: usize,
 ) -> Track
-    requires { ⌜ (base + 640 * records + stepOf luma * 32 ≤ length (now masks) + 640) × (ss ≤ 1) × (records ≤ 128) ⌝ }
+    requires { ⌜ (base + 640 * records + unitWords luma * 32 ≤ length (now masks) + 640) × (ss ≤ 1) × (records ≤ 128) ⌝ }
     ensures { λ r. ⌜ r ≡ track (columnWords (now (masks .entry)) luma halves base (32 / 2 ^ ss)) width (records * (32 / 2 ^ ss)) ⌝ }
 {
     let side = 32 >> ss;
     let mut t = track::start();
     for rec in 0..records {
-        let n = lines::in_record(side, width, rec);
+        let n = in_record(side, width, rec);
         t = track::part(masks, luma, halves, base + 640 * rec, 0, n, side, t);
     }
     t
@@ -69,8 +77,8 @@ fn columns_track(
 {
     let records = units::frame::records_along(w4);
     let width = units::chroma_units(w4, ss);
-    let at = track::record_start(luma, 0, lines::record_row(sb4, k) * records);
-    let base = at + lines::first_half(sb4, k);
+    let at = record_start(luma, false, record_row(sb4, k) * records);
+    let base = at + first_half(sb4, k);
     columns_walk(masks, luma, sb4.0 / 16, base, ss, width.0, records)
 }
 
@@ -79,7 +87,7 @@ fn row_lines(ss: usize, h4: LumaUnit, sb4: LumaUnit, k: usize) -> u32
     requires { ⌜ (ss ≤ 1) × (h4 .0 ≤ 4096) × (k * sb4 .0 < h4 .0) × ((sb4 .0 ≡ 16) ⊎ (sb4 .0 ≡ 32)) ⌝ }
     ensures { λ r. ⌜ r ≡ rowLines ss (h4 .0) (sb4 .0) k ⌝ }
 {
-    lines::line_word(16 >> ss, lines::row_units(ss, h4, sb4, k))
+    lines::line_word(half_units(ss), row_units(ss, h4, sb4, k))
 }
 
 fn columns(
@@ -115,9 +123,9 @@ fn rows_track(
     ensures { λ r. ⌜ r ≡ rowTrack (now (masks .entry)) luma ss (w4 .0) (h4 .0) (sb4 .0) k rec ⌝ }
 {
     let records = units::frame::records_along(w4);
-    let at = track::record_start(luma, 1, lines::record_row(sb4, k) * records + rec);
-    let first = lines::first_line(ss, sb4, k);
-    let n = lines::row_units(ss, h4, sb4, k);
+    let at = record_start(luma, true, record_row(sb4, k) * records + rec);
+    let first = first_line(ss, sb4, k);
+    let n = row_units(ss, h4, sb4, k);
     let sb = units::chroma_unit(sb4, ss);
     track::part(masks, luma, 2, at, first, n, sb.0, track::start())
 }
@@ -128,8 +136,8 @@ fn record_lines(ss: usize, w4: LumaUnit, rec: usize) -> u32
     ensures { λ r. ⌜ r ≡ recordLines ss (w4 .0) rec ⌝ }
 {
     let width = units::chroma_units(w4, ss);
-    let n = lines::in_record(32 >> ss, width.0, rec);
-    lines::line_word(16 >> ss, n)
+    let n = in_record(32 >> ss, width.0, rec);
+    lines::line_word(half_units(ss), n)
 }
 
 fn rows_record(

@@ -1,8 +1,11 @@
 // The walk along the units of a line, for 32 lines at once.
+use units::masks::two_halves;
+use units::masks::unit_words;
 ghost use mathlib.Core.Path.{_≡_};
 ghost use Prim.Native.Nat.{_+_, _*_, _<_, _≤_};
 ghost use lib.ListN.{length};
-ghost use Rattle.gap.specs.Track.{wordAt, stepOf, startOf, classWord, clashW, startT, stepT, unitT, unitAtT, runT, partT, closeT};
+ghost use Rattle.units.specs.Masks.{unitWords};
+ghost use Rattle.gap.specs.Track.{wordAt, classWord, clashW, startT, stepT, unitT, unitAtT, runT, partT, closeT};
 
 // Marks, class 1 or more and class 2 of the last three units, and what was found: the lines that break the rule, the edges, and the bits
 // past the frame.
@@ -83,20 +86,21 @@ fn word(masks: &[u16], halves: usize, at: usize) -> u32
     ensures { λ r. ⌜ r ≡ wordAt (now (masks .entry)) halves at ⌝ }
 {
     if halves == 2 {
-        return bits::word(masks[at], masks[at + 1]);
+        return two_halves(masks[at], masks[at + 1], 16);
     }
-    bits::word(masks[at], 0)
+    two_halves(masks[at], 0, 16)
 }
 
 fn class_word(masks: &[u16], luma: bool, halves: usize, at: usize, i: usize, c: usize) -> u32
-    requires { ⌜ (at + stepOf luma * i + stepOf luma ≤ length (now masks)) × (c < 3) ⌝ }
+    requires { ⌜ (at + unitWords luma * i + unitWords luma ≤ length (now masks)) × (c < 3) ⌝ }
     ensures { λ r. ⌜ r ≡ classWord (now (masks .entry)) luma halves at i c ⌝ }
 {
+    let first = at + unit_words(luma) * i + 2 * c;
     if luma {
-        return word(masks, halves, at + 6 * i + 2 * c);
+        return word(masks, halves, first);
     }
     if c < 2 {
-        return word(masks, halves, at + 4 * i + 2 * c);
+        return word(masks, halves, first);
     }
     0
 }
@@ -110,7 +114,7 @@ fn unit_at(
     i: usize,
     s: Track,
 ) -> Track
-    requires { ⌜ at + stepOf luma * i + stepOf luma ≤ length (now masks) ⌝ }
+    requires { ⌜ at + unitWords luma * i + unitWords luma ≤ length (now masks) ⌝ }
     ensures { λ r. ⌜ r ≡ unitAtT (now (masks .entry)) luma halves inside at i s ⌝ }
 {
     let x = class_word(masks, luma, halves, at, i, 0);
@@ -129,7 +133,7 @@ fn chunk(
     m: usize,
     s: Track,
 ) -> Track
-    requires { ⌜ at + stepOf luma * (from + m) ≤ length (now masks) ⌝ }
+    requires { ⌜ at + unitWords luma * (from + m) ≤ length (now masks) ⌝ }
     ensures { λ r. ⌜ r ≡ runT (now (masks .entry)) luma halves inside at from m s ⌝ }
 {
     let mut t = s;
@@ -149,7 +153,7 @@ pub fn part(
     end: usize,
     s: Track,
 ) -> Track
-    requires { ⌜ (at + stepOf luma * (from + end) ≤ length (now masks)) × (n ≤ end) ⌝ }
+    requires { ⌜ (at + unitWords luma * (from + end) ≤ length (now masks)) × (n ≤ end) ⌝ }
     ensures { λ r. ⌜ r ≡ partT (now (masks .entry)) luma halves at from n end s ⌝ }
 {
     let t = chunk(masks, luma, halves, true, at, from, n, s);
@@ -160,15 +164,4 @@ pub fn close(s: Track) -> u32
     ensures { λ r. ⌜ r ≡ closeT s ⌝ }
 {
     s.bad | clash(4294967295, 0, 0, s.m1, s.m2, s.m3, s.a1, s.b2, s.b3)
-}
-
-// Where the units of a pass start in a record of the frame.
-pub fn record_start(luma: bool, pass: usize, number: usize) -> usize
-    requires { ⌜ (pass < 2) × (number ≤ 16384) ⌝ }
-    ensures { λ r. ⌜ r ≡ 640 * number + startOf luma pass ⌝ }
-{
-    if luma {
-        return 640 * number + 192 * pass;
-    }
-    640 * number + (384 + 128 * pass)
 }

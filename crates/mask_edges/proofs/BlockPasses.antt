@@ -8,7 +8,7 @@ use lib.Dec.{ltb}
 use lib.ListN.{getD}
 use Rattle.loops.proofs.Tables.{each-at}
 use Rattle.standard.specs.Sizes.{Tx_Wide, Tx_High}
-use Rattle.units.specs.Memory.{halfUnits}
+use Rattle.units.specs.Masks.{halfUnits}
 use Rattle.units.specs.Sizes.{chromaClass}
 use Rattle.mask_edges.specs.declared.edge.BlockPass.{BlockPass}
 use Rattle.mask_edges.specs.Folds.{bitIn, classes, stores, gridPass, gridMasks, cellPass, cellMasks, classIn, stepIn, passOf, Held, Told}

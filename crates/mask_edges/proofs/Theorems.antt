@@ -12,7 +12,7 @@ use borrow.Author.Tests.{lt-ltb, le-ltb}
 use Rattle.standard.specs.Sizes.{Tx_Wide, Tx_High}
 use Rattle.bits.specs.Mark.{Adds}
 use Rattle.bits.proofs.Marks.{adds-then}
-use Rattle.units.specs.Memory.{lumaBit, chromaBit, halfUnits}
+use Rattle.units.specs.Masks.{lumaBit, chromaBit, halfUnits}
 use Rattle.units.specs.Sizes.{lumaClass, chromaClass}
 use Rattle.units.proofs.Rules.{tx-rule}
 use Rattle.decomp.specs.Cells.{Covers}

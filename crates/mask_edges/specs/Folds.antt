@@ -25,7 +25,7 @@ use Rattle.loops.specs.Run.{upTo}
 use Rattle.bits.specs.Bit.{hasBit}
 use Rattle.bits.specs.Mark.{mark, marks}
 use Rattle.standard.specs.Sizes.{Tx_Wide, Tx_High}
-use Rattle.units.specs.Memory.{lumaWord, chromaWord, halfUnits}
+use Rattle.units.specs.Masks.{lumaWord, chromaWord, halfUnits}
 use Rattle.units.specs.Sizes.{lumaClass, chromaClass}
 use Rattle.decomp.specs.Cells.{cell}
 use Rattle.decomp.specs.Folds.{block}

@@ -4,7 +4,7 @@ use mathlib.Core.Bool.{Bool}
 use mathlib.Core.List.{List}
 use lib.ListN.{length}
 use Rattle.standard.specs.Sizes.{Tx_Wide, Tx_High}
-use Rattle.units.specs.Memory.{lumaBit}
+use Rattle.units.specs.Masks.{lumaBit}
 use Rattle.units.specs.Sizes.{lumaClass, chromaClass}
 use Rattle.decomp.specs.Cells.{Covers}
 use Rattle.mask_edges.specs.Recording.{Room, Recorded, Contexts, chromaBits, intraBlock, interBlock, chromaBlock}

@@ -21,7 +21,7 @@ use lib.ListN.{length, getD}
 use Rattle.loops.specs.Any.{anyBelow}
 use Rattle.bits.specs.Mark.{isSet}
 use Rattle.standard.specs.Sizes.{Tx_Wide, Tx_High}
-use Rattle.units.specs.Memory.{chromaBit, halfUnits}
+use Rattle.units.specs.Masks.{chromaBit, halfUnits}
 use Rattle.units.specs.Sizes.{lumaClass, chromaClass}
 use Rattle.decomp.specs.Split.{txAt}
 

@@ -1,8 +1,4 @@
 // One pass over a block, and the bits of its edges. Places and sizes are in units of the plane at hand.
-use units::ChromaUnit;
-use units::LumaUnit;
-use units::memory::chroma_word;
-use units::memory::luma_word;
 ghost use mathlib.Core.Path.{_≡_};
 ghost use Prim.Native.Nat.{_+_, _-_, _*_, _/_, _%_, _^_, _<_, _≤_, min};
 ghost use lib.Bits.{bitOr};
@@ -61,10 +57,7 @@ pub fn edge_word(chroma: bool, pass: usize, unit: usize, class: u8) -> usize
     requires { ⌜ (pass < 2) × (unit < 32) × (class < classes chroma) ⌝ }
     ensures { λ r. ⌜ (r ≡ edgeWord chroma pass unit class 0) × (r < 639) ⌝ }
 {
-    if chroma {
-        return chroma_word(pass, ChromaUnit(unit), class, 0);
-    }
-    luma_word(pass, LumaUnit(unit), class, 0)
+    units::masks::edge_word(!chroma, pass == 1, unit, class)
 }
 
 // A mask word is stored only here, and only to set a bit.

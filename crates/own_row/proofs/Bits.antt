@@ -14,7 +14,7 @@ use Rattle.plane.specs.Gap.{GapRule}
 use Rattle.plane.specs.Line.{Pass, columns, rows, Piece, other}
 use Rattle.plane.specs.Plane.{down}
 use Rattle.units.specs.Frame.{records}
-use Rattle.units.specs.Memory.{halfUnits}
+use Rattle.units.specs.Masks.{halfUnits}
 use Rattle.units.specs.Units.{chromaUnit, chromaUnits}
 use Rattle.units.proofs.Places.{by-ss}
 use Rattle.edges.specs.Edges.{Grid, Proper, unitsOf, half, classes, edgeBit, inFrame, highest, edge}

@@ -15,7 +15,8 @@ use Rattle.plane.specs.Three.{Three}
 use Rattle.plane.specs.Plane.{right, down}
 use Rattle.units.specs.Frame.{records, frameRecords}
 use Rattle.units.specs.Layout.{ssHor}
-use Rattle.units.specs.Memory.{levelAt, lumaWord, chromaWord, halfUnits}
+use Rattle.units.specs.Masks.{lumaWord, chromaWord, halfUnits}
+use Rattle.units.specs.Memory.{levelAt}
 use Rattle.units.specs.Units.{chromaUnit}
 use Rattle.units.proofs.Places.{by-ss, chroma-units-le}
 use Rattle.edges.specs.Edges.{Grid, Proper, ssOf, unitsOf, side, half, recordAt, classes, wordIn, edgeBit}

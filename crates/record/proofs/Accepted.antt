@@ -7,7 +7,7 @@ use native.Mathlib.Omega.{arith}
 use lib.ListN.{length, take, drop, length-set}
 use Rattle.bits.specs.Mark.{isSet}
 use Rattle.units.specs.Frame.{recordOf}
-use Rattle.units.specs.Memory.{lumaBit}
+use Rattle.units.specs.Masks.{lumaBit}
 use Rattle.units.proofs.Places.{ss-hor-le, ss-ver-le}
 use Rattle.mask_edges.specs.Recording.{Room, Contexts, chromaBits, intraBlock, interBlock}
 use Rattle.mask_edges.specs.Folds.{stores}

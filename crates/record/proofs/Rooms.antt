@@ -13,7 +13,8 @@ use Rattle.loops.proofs.Tables.{each-at}
 use Rattle.standard.specs.Sizes.{Num_4x4_Blocks_Wide, Num_4x4_Blocks_High, Tx_Wide, Tx_High}
 use Rattle.units.specs.Units.{chromaUnit, chromaUnits}
 use Rattle.units.specs.Frame.{records, frameRecords, recordOf}
-use Rattle.units.specs.Memory.{levelAt, halfUnits}
+use Rattle.units.specs.Masks.{halfUnits}
+use Rattle.units.specs.Memory.{levelAt}
 use Rattle.units.proofs.Places.{chroma-units-le, ss-hor-le, ss-ver-le}
 use Rattle.units.proofs.Rules.{block-rule}
 use Rattle.decomp.specs.Cells.{Covers}

@@ -11,7 +11,8 @@ use borrow.Rule.Slice.PartMut.{midOf, postOf, putMid, mid-len, put-same, take-pu
 use Rattle.loops.proofs.Runs.{upTo-again}
 use Rattle.loops.proofs.Lists.{part-put}
 use Rattle.units.specs.Units.{chromaUnit}
-use Rattle.units.specs.Memory.{levelAt, halfUnits}
+use Rattle.units.specs.Masks.{halfUnits}
+use Rattle.units.specs.Memory.{levelAt}
 use Rattle.units.specs.Sizes.{lumaClass, chromaClass}
 use Rattle.mask_edges.specs.Folds.{columnsOf, rowsOf, gridMasks, cellMasks, tables}
 use Rattle.block.specs.declared.Block.{Block}

@@ -22,7 +22,8 @@ use Rattle.loops.specs.Run.{upTo}
 use Rattle.standard.specs.Sizes.{Tx_Wide, Tx_High, Max_Tx_Size_Rect}
 use Rattle.units.specs.Units.{chromaUnit}
 use Rattle.units.specs.Frame.{recordOf}
-use Rattle.units.specs.Memory.{levelAt, halfUnits}
+use Rattle.units.specs.Masks.{halfUnits}
+use Rattle.units.specs.Memory.{levelAt}
 use Rattle.units.specs.Sizes.{lumaClass, chromaClass}
 use Rattle.mask_edges.specs.declared.edge.BlockPass.{BlockPass}
 use Rattle.mask_edges.specs.Folds.{columnsOf, rowsOf, gridMasks, cellMasks, stores, classIn, tables}

@@ -16,7 +16,8 @@ use lib.ListN.{length, getD}
 use Rattle.bits.specs.Mark.{isSet}
 use Rattle.units.specs.Units.{chromaUnit}
 use Rattle.units.specs.Frame.{recordOf}
-use Rattle.units.specs.Memory.{levelAt, lumaBit}
+use Rattle.units.specs.Masks.{lumaBit}
+use Rattle.units.specs.Memory.{levelAt}
 use Rattle.mask_edges.specs.Recording.{columns, rows, edges, Contexts, chromaBits, intraBlock, interBlock}
 use Rattle.mask_edges.specs.Recording as recording
 use Rattle.block.specs.declared.Block.{Block}

@@ -15,7 +15,7 @@ use Rattle.plane.specs.Line.{columns, Piece}
 use Rattle.standard.specs.Sizes.{Num_4x4_Blocks_Wide, Num_4x4_Blocks_High, Tx_Wide, Tx_High}
 use Rattle.standard.specs.FilterSize.{filterSize, filterLen}
 use Rattle.standard.specs.Edge.{isTxEdge, isBlockEdge, applyFilter, edgeSize}
-use Rattle.units.specs.Memory.{lumaBit, chromaBit}
+use Rattle.units.specs.Masks.{lumaBit, chromaBit}
 use Rattle.units.specs.Sizes.{log2}
 use Rattle.edges.specs.Edges.{edge, edgeBit}
 use Rattle.mask_edges.specs.Folds.{blockEdge, stepEdges, gridPass, gridMasks}

@@ -11,7 +11,9 @@ use Rattle.loops.proofs.Lists.{row-in}
 use Rattle.units.specs.Units.{unitsOf, chromaUnit, chromaUnits}
 use Rattle.units.specs.Layout.{ssHor, ssVer}
 use Rattle.units.specs.Frame.{stored, records, frameRecords, recordOf, superblocks}
-use Rattle.units.specs.Memory.{levelAt, chromaWord, halfUnits, lumaBit, chromaBit}
+use Rattle.plane.specs.Line.{Pass, columns, rows, passNo}
+use Rattle.units.specs.Masks.{wordOf, unitWords, passStart, chromaWord, halfUnits, lumaBit, chromaBit}
+use Rattle.units.specs.Memory.{levelAt}
 
 flag-le : (b : Bool) (m n : ℕ) → m ≤ 1 → n ≤ 1 → cond b m n ≤ 1
 flag-le true m n p q = p
@@ -64,10 +66,31 @@ pub level-in : (len stride w4 h4 x y area : ℕ) → w4 ≤ stride → 4 * strid
 unfolding levelAt
 level-in len stride w4 h4 x y area a b p q r = omega (arith, row-in y h4 stride q, mul-comm h4 stride)
 
+-- ---- words of a record
+
+-- a word stands after those before its pass and its unit
+pub word-at : (luma : Bool) (d : Pass) (unit c h : ℕ) → wordOf luma d unit c h ≡ passStart luma d + unitWords luma * unit + 2 * c + h
+word-at true d unit c h = omega arith
+word-at false d unit c h = omega arith
+
+pub pass-lt : (d : Pass) → passNo d < 2
+pass-lt columns = omega arith
+pass-lt rows = omega arith
+
+pub pass-in : (luma : Bool) (d : Pass) → passStart luma d + unitWords luma * 32 ≤ 640
+pass-in true columns = omega arith
+pass-in true rows = omega arith
+pass-in false columns = omega arith
+pass-in false rows = omega arith
+
 -- ---- bits of a record
 
 pub half-in : (place ss : ℕ) → ss ≤ 1 → place < 2 * halfUnits ss → (place / halfUnits ss < 2) × (place % halfUnits ss < 16)
 half-in place = by-ss (λ ss. place < 2 * halfUnits ss → (place / halfUnits ss < 2) × (place % halfUnits ss < 16)) (λ h. omega arith) (λ h. omega arith)
+
+-- the same as the code has it, h being the units of a half
+pub half-at : (place ss h : ℕ) → h ≡ halfUnits ss → ss ≤ 1 → place < 2 * halfUnits ss → (0 < h) × (place / h < 2) × (place % h < 16)
+half-at place ss h e l p = rw e (by-ss (λ ss. 0 < halfUnits ss) (omega arith) (omega arith) ss l, half-in place ss l p .0, half-in place ss l p .1)
 
 pub luma-bit-inj : (p p′ u u′ k k′ q q′ : ℕ) → u < 32 → u′ < 32 → k < 3 → k′ < 3 → q < 32 → q′ < 32
     → lumaBit p u k q ≡ lumaBit p′ u′ k′ q′ → (p ≡ p′) × (u ≡ u′) × (k ≡ k′) × (q ≡ q′)

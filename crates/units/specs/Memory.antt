@@ -3,12 +3,8 @@
 --   levelsOk len level-stride w4 h4  a stride of w4 units at least, and 4 * stride * h4 bytes
 --   planeOk len stride width height     a stride of the stored width at least, and stride * stored height samples
 --   masksOk len w4 h4                640 words for each record
---   lumaWord, chromaWord             the place of a word of masks in its record
---   halfUnits ss                     the units that a half holds, ss being that of the direction along the pass
---   lumaBit, chromaBit               the bit of an edge, as one number: bit e % 16 of the record's word e / 16
--- Pass 0 is columns, 1 rows; `unit` is the edge's place across the pass, `place` the one along it, both counted in the record.
 use mathlib.Core.Bool.{Bool, _&&_}
-use Prim.Native.Nat.{ℕ, _+_, _*_, _/_, _%_, _^_}
+use Prim.Native.Nat.{ℕ, _+_, _*_}
 use lib.Dec.{leb}
 use Rattle.units.specs.Frame.{frameRecords}
 
@@ -23,18 +19,3 @@ planeOk len stride width height = leb width stride && leb (stride * height) len
 
 abbrev pub masksOk : ℕ → ℕ → ℕ → Bool
 masksOk len w4 h4 = leb (640 * frameRecords w4 h4) len
-
-abbrev pub lumaWord : ℕ → ℕ → ℕ → ℕ → ℕ
-lumaWord pass unit class half = ((pass * 32 + unit) * 3 + class) * 2 + half
-
-abbrev pub chromaWord : ℕ → ℕ → ℕ → ℕ → ℕ
-chromaWord pass unit class half = 384 + (((pass * 32 + unit) * 2 + class) * 2 + half)
-
-abbrev pub halfUnits : ℕ → ℕ
-halfUnits ss = 16 / 2 ^ ss
-
-unfoldable pub lumaBit : ℕ → ℕ → ℕ → ℕ → ℕ
-lumaBit pass unit class place = 16 * lumaWord pass unit class (place / 16) + place % 16
-
-unfoldable pub chromaBit : ℕ → ℕ → ℕ → ℕ → ℕ → ℕ
-chromaBit ss pass unit class place = 16 * chromaWord pass unit class (place / halfUnits ss) + place % halfUnits ss

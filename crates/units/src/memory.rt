@@ -7,7 +7,7 @@ ghost use mathlib.Core.Path.{_≡_};
 ghost use mathlib.Core.Bool.{_&&_};
 ghost use Prim.Native.Nat.{_*_, _^_, _<_, _≤_};
 ghost use lib.Dec.{leb};
-ghost use Rattle.units.specs.Memory.{levelAt, levelsOk, planeOk, masksOk, lumaWord, chromaWord, halfUnits, lumaBit, chromaBit};
+ghost use Rattle.units.specs.Memory.{levelAt, levelsOk, planeOk, masksOk};
 
 // Lines of `stride` cells, at least `width` of them; by a quotient, since the product may be too large.
 fn lines_ok(len: usize, stride: usize, width: usize, lines: usize) -> bool
@@ -59,33 +59,4 @@ pub fn chroma_level_at(level_stride: usize, x: ChromaUnit, y: ChromaUnit, area: 
     ensures { λ r. ⌜ r ≡ levelAt «level_stride» (x .0) (y .0) area ⌝ }
 {
     level_at(level_stride, x.0, y.0, area)
-}
-
-pub fn luma_word(pass: usize, unit: LumaUnit, class: u8, half: usize) -> usize
-    requires { ⌜ (pass < 2) × (unit .0 < 32) × (class < 3) × (half < 2) ⌝ }
-    ensures { λ r. ⌜ r ≡ lumaWord pass (unit .0) class half ⌝ }
-{
-    ((pass * 32 + unit.0) * 3 + class as usize) * 2 + half
-}
-
-pub fn chroma_word(pass: usize, unit: ChromaUnit, class: u8, half: usize) -> usize
-    requires { ⌜ (pass < 2) × (unit .0 < 32) × (class < 2) × (half < 2) ⌝ }
-    ensures { λ r. ⌜ r ≡ chromaWord pass (unit .0) class half ⌝ }
-{
-    384 + (((pass * 32 + unit.0) * 2 + class as usize) * 2 + half)
-}
-
-pub fn luma_bit(pass: usize, unit: LumaUnit, class: u8, place: LumaUnit) -> usize
-    requires { ⌜ (pass < 2) × (unit .0 < 32) × (class < 3) × (place .0 < 32) ⌝ }
-    ensures { λ r. ⌜ r ≡ lumaBit pass (unit .0) class (place .0) ⌝ }
-{
-    16 * luma_word(pass, unit, class, place.0 / 16) + place.0 % 16
-}
-
-pub fn chroma_bit(ss: usize, pass: usize, unit: ChromaUnit, class: u8, place: ChromaUnit) -> usize
-    requires { ⌜ (ss ≤ 1) × (pass < 2) × (unit .0 < 32) × (class < 2) × (place .0 < 2 * halfUnits ss) ⌝ }
-    ensures { λ r. ⌜ r ≡ chromaBit ss pass (unit .0) class (place .0) ⌝ }
-{
-    let half = 16 >> ss;
-    16 * chroma_word(pass, unit, class, place.0 / half) + place.0 % half
 }

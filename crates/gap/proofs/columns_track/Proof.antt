@@ -4,8 +4,11 @@ use Prim.Native.Nat.{_+_, _*_, _/_, _^_}
 use native.Mathlib.Omega.{arith}
 use borrow.Author.Needs.{needs}
 use Rattle.units.specs.Frame.{records}
-use Rattle.gap.specs.Track.{startOf, track, columnWords}
-use Rattle.gap.proofs.Frames.{start-in, records-small, columns-fit}
+use Rattle.plane.specs.Line.{columns}
+use Rattle.units.specs.Masks.{passStart}
+use Rattle.units.proofs.Places.{pass-in}
+use Rattle.gap.specs.Track.{track, columnWords}
+use Rattle.gap.proofs.Frames.{records-small, columns-fit}
 use Rattle.gap.proofs.columns_track.Statement.{statement}
 use Rattle.gap.proofs.columns_track.Tie as tie
 
@@ -29,13 +32,11 @@ mul-record-start c =
 
 record-start-requires : tie.Need-record-start-requires
 record-start-requires c κs =
-    let a = c .before .before .before .before .args in (
-      omega arith,
-      omega (
-        arith,
-        records-small (a .k * a .sb4 .0 / 32) (records (a .w4 .0)) _ _ (c .record-row .ensures)
-            (c .before .before .records-along .ensures) (omega arith) (omega arith),
-      ),
+    let a = c .before .before .before .before .args in
+    omega (
+      arith,
+      records-small (a .k * a .sb4 .0 / 32) (records (a .w4 .0)) _ _ (c .record-row .ensures) (c .before .before .records-along .ensures)
+          (omega arith) (omega arith),
     )
 
 first-half-requires : tie.Need-first-half-requires
@@ -47,7 +48,7 @@ add-base c =
     omega (
       arith,
       c .before .record-start .ensures,
-      start-in (a .luma) 0 (omega arith),
+      pass-in (a .luma) columns,
       records-small (a .k * a .sb4 .0 / 32) (records (a .w4 .0)) _ _ (c .before .before .record-row .ensures)
           (c .before .before .before .before .records-along .ensures) (omega arith) (omega arith),
     )
@@ -69,7 +70,7 @@ returns c =
     let rec = c .before .before .before .before .before .before .records-along .ensures in
     let l = c .before .before .before .before .record-row .ensures in
     let b = c .before .before .before .record-start .ensures
-    ∙ (λ i. 640 * (l i * rec i) + startOf (a .luma) 0) in
+    ∙ (λ i. 640 * (l i * rec i) + passStart (a .luma) columns) in
     c .columns-walk .ensures
     ∙ (λ i. track (columnWords (a .masks .now) (a .luma) (a .sb4 .0 / 16) (b i + c .before .before .first-half .ensures i) (32 / 2 ^ a .ss))
     (c .before .before .before .before .before .chroma-units .ensures i) (rec i * (32 / 2 ^ a .ss)))

@@ -1,9 +1,10 @@
 -- `record_lines` meets its contract: the lines of one record.
-use mathlib.Core.Path.{ap, _∙_}
+use mathlib.Core.Path.{ap, ap₂, _∙_}
 use Prim.Native.Nat.{ℕ, _/_, _^_}
 use native.Mathlib.Omega.{arith}
 use borrow.Author.Needs.{needs}
-use Rattle.gap.specs.Lines.{lineWord, inRecord}
+use Rattle.units.specs.Masks.{inRecord}
+use Rattle.gap.specs.Lines.{lineWord}
 use Rattle.gap.proofs.Shapes.{halves}
 use Rattle.units.proofs.Places.{side-le}
 use Rattle.gap.proofs.record_lines.Statement.{statement}
@@ -18,20 +19,20 @@ shr-in-record c = search needs
 in-record-requires : tie.Need-in-record-requires
 in-record-requires c κs = (side-le (c .before .args .ss) (omega arith), omega arith)
 
-shr-line-word : tie.Need-shr-line-word
-shr-line-word c = search needs
+half-units-requires : tie.Need-half-units-requires
+half-units-requires c κs = search needs
 
 line-word-requires : tie.Need-line-word-requires
 line-word-requires c κs =
-    let k = halves (c .before .before .args .ss) (omega arith) in
-    (k .most, omega (arith, c .in-record .ensures, k .two))
+    let k = halves (c .before .before .before .args .ss) (omega arith) in
+    (omega (arith, k .most, c .half-units .ensures), omega (arith, c .before .in-record .ensures, k .two, c .half-units .ensures))
 
 returns : tie.Need-returns
 returns c =
-    let a = c .before .before .before .args in
+    let a = c .before .before .before .before .args in
     c .line-word .ensures
-    ∙ ap (lineWord (16 / 2 ^ a .ss)) (c .before .in-record .ensures ∙ ap (λ (n : ℕ). inRecord (32 / 2 ^ a .ss) n (a .rec))
-    (c .before .before .chroma-units .ensures))
+    ∙ ap₂ lineWord (c .before .half-units .ensures)
+    (c .before .before .in-record .ensures ∙ ap (λ (n : ℕ). inRecord (32 / 2 ^ a .ss) n (a .rec)) (c .before .before .before .chroma-units .ensures))
 
 pub record-lines-spec : {M : Type 1} → statement M
 record-lines-spec =
@@ -40,6 +41,6 @@ record-lines-spec =
     chroma-units-requires
     shr-in-record
     in-record-requires
-    shr-line-word
+    half-units-requires
     line-word-requires
     returns)

@@ -1,6 +1,5 @@
 -- `row_lines` meets its contract: the row's lines lie in its halves.
-use mathlib.Core.Path.{ap, _∙_}
-use Prim.Native.Nat.{_/_, _^_}
+use mathlib.Core.Path.{ap₂, _∙_}
 use native.Mathlib.Omega.{arith}
 use borrow.Author.Needs.{needs}
 use Rattle.gap.specs.Lines.{lineWord}
@@ -8,21 +7,22 @@ use Rattle.gap.proofs.Shapes.{halves, row-lines}
 use Rattle.gap.proofs.row_lines.Statement.{statement}
 use Rattle.gap.proofs.row_lines.Tie as tie
 
-shr-line-word : tie.Need-shr-line-word
-shr-line-word c = search needs
+half-units-requires : tie.Need-half-units-requires
+half-units-requires c κs = search needs
 
 row-units-requires : tie.Need-row-units-requires
 row-units-requires c κs = search needs
 
 line-word-requires : tie.Need-line-word-requires
 line-word-requires c κs =
-    let a = c .before .args in
-    let k = row-lines (a .ss) (a .h4 .0) (a .sb4 .0) (a .k) (omega arith) (c .before .pre .3) (omega arith) in
+    let s = c .before .before in
+    let a = s .args in
+    let k = row-lines (a .ss) (a .h4 .0) (a .sb4 .0) (a .k) (omega arith) (s .pre .3) (omega arith) in
     let v = halves (a .ss) (omega arith) in
-    (v .most, omega (arith, k .room, v .two, c .row-units .ensures))
+    (omega (arith, v .most, c .before .half-units .ensures), omega (arith, k .room, v .two, c .before .half-units .ensures, c .row-units .ensures))
 
 returns : tie.Need-returns
-returns c = c .line-word .ensures ∙ ap (lineWord (16 / 2 ^ c .before .before .args .ss)) (c .before .row-units .ensures)
+returns c = c .line-word .ensures ∙ ap₂ lineWord (c .before .before .half-units .ensures) (c .before .row-units .ensures)
 
 pub row-lines-spec : {M : Type 1} → statement M
-row-lines-spec = tie.close (tie.spec shr-line-word row-units-requires line-word-requires returns)
+row-lines-spec = tie.close (tie.spec half-units-requires row-units-requires line-word-requires returns)

@@ -3,6 +3,7 @@ use mathlib.Core.Path.{_∙_}
 use Prim.Native.Nat.{_*_, _/_}
 use native.Mathlib.Omega.{arith}
 use borrow.Author.Needs.{needs}
+use Rattle.plane.specs.Line.{rows}
 use Rattle.units.specs.Frame.{records}
 use Rattle.gap.specs.Track.{track, rowWords}
 use Rattle.units.proofs.Places.{side-le}
@@ -39,14 +40,12 @@ add-record-start c =
 record-start-requires : tie.Need-record-start-requires
 record-start-requires c κs =
     let a = c .before .before .before .args in
-    let f = c .before .before .before .pre .0 in (
-      omega arith,
-      omega (
-        arith,
-        c .before .records-along .ensures,
-        records-small (a .k * a .sb4 .0 / 32) (records (a .w4 .0)) _ _
-            (c .record-row .ensures) (c .before .records-along .ensures) (omega arith) (omega arith),
-      ),
+    let f = c .before .before .before .pre .0 in
+    omega (
+      arith,
+      c .before .records-along .ensures,
+      records-small (a .k * a .sb4 .0 / 32) (records (a .w4 .0)) _ _ (c .record-row .ensures) (c .before .records-along .ensures)
+          (omega arith) (omega arith),
     )
 
 first-line-requires : tie.Need-first-line-requires
@@ -78,7 +77,7 @@ returns : tie.Need-returns
 returns c =
     let a = c .before .before .before .before .before .before .before .before .before .args in
     let b = record-place (a .k * a .sb4 .0 / 32) (records (a .w4 .0)) _ _ (c .before .before .before .before .before .before .record-row .ensures)
-    (c .before .before .before .before .before .before .before .records-along .ensures) (a .luma) 1 (a .rec) _
+    (c .before .before .before .before .before .before .before .records-along .ensures) (a .luma) rows (a .rec) _
     (c .before .before .before .before .before .record-start .ensures) in
     rows-walked (a .masks .now) (a .luma) _ _ _ _ _ _
     (omega (arith, c .before .before .before .row-units .ensures, c .before .before .chroma-unit .ensures)) (c .before .start .ensures)

@@ -5,13 +5,13 @@ use Rattle.edges.proofs.bit.bit_in.Statement.{statement}
 use Rattle.edges.proofs.bit.bit_in.Tie as tie
 
 luma-bit-requires : tie.Need-luma-bit-requires
-luma-bit-requires c κs = let s = sides (c .before .args .ss) 0 (omega arith) in (omega arith, omega arith, omega arith, omega arith)
+luma-bit-requires c κs = let s = sides (c .before .args .ss) 0 (omega arith) in (omega arith, omega arith, omega arith)
 
 returns : tie.Need-returns
 returns c = rw (c .before .if1 .taken) (c .luma-bit .ensures)
 
 chroma-bit-requires : tie.Need-chroma-bit-requires
-chroma-bit-requires c κs = let s = sides (c .before .args .ss) 0 (omega arith) in (omega arith, omega arith, omega arith, omega arith, omega arith)
+chroma-bit-requires c κs = let s = sides (c .before .args .ss) 0 (omega arith) in (omega arith, omega arith, omega arith, omega arith)
 
 returns-2 : tie.Need-returns-2
 returns-2 c = rw (c .before .if1 .left) (c .chroma-bit .ensures)

@@ -37,7 +37,7 @@ rem-bit-in-2 : tie.Need-rem-bit-in-2
 rem-bit-in-2 c = omega (arith, at (c .before .before))
 
 bit-in-requires : tie.Need-bit-in-requires
-bit-in-requires c κs = let p = at (c .before .before) in (c .before .before .pre .hor-le, omega arith, omega (arith, p .across-down), p .along-right .rest)
+bit-in-requires c κs = let p = at (c .before .before) in (c .before .before .pre .hor-le, omega (arith, p .across-down), p .along-right .rest)
 
 returns : tie.Need-returns
 returns c h4 = let s = c .before .before .before in
@@ -62,7 +62,7 @@ rem-bit-in-4 : tie.Need-rem-bit-in-4
 rem-bit-in-4 c = omega (arith, at (c .before .before))
 
 bit-in-requires-2 : tie.Need-bit-in-requires-2
-bit-in-requires-2 c κs = let p = at (c .before .before) in (c .before .before .pre .ver-le, omega arith, omega (arith, p .across-right), p .along-down .rest)
+bit-in-requires-2 c κs = let p = at (c .before .before) in (c .before .before .pre .ver-le, omega (arith, p .across-right), p .along-down .rest)
 
 returns-2 : tie.Need-returns-2
 returns-2 c h4 = let s = c .before .before .before in

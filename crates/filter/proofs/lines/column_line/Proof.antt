@@ -21,8 +21,8 @@ row-top-requires c κs = search needs
 mask-at-requires : tie.Need-mask-at-requires
 mask-at-requires c κs = omega (arith, side-le (c .before .before .before .before .args .c .«ss_hor») (c .before .before .before .before .pre .proper .ss-hor-le))
 
-mul-first : tie.Need-mul-first
-mul-first c = search needs
+first-half-requires : tie.Need-first-half-requires
+first-half-requires c κs = search needs
 
 half-units-requires : tie.Need-half-units-requires
 half-units-requires c κs = search needs
@@ -38,27 +38,27 @@ sample-at-requires c κs = let t = c .before .before .before .before .before .be
 class-at-requires : tie.Need-class-at-requires
 class-at-requires c κs = let t = c .before .before .before .before .before .before .before .before .before in
     class-asks (t .args .c) columns (t .args .k) (t .args .rec) (t .args .a) _ (t .pre) _ _ _ 0
-    (mask-is (t .args .c) columns (t .args .k) (t .args .rec) (t .args .a) _ _ refl (c .before .before .before .before .mask-at .ensures)) refl
-    (c .before .half-units .ensures) (omega arith)
+    (mask-is (t .args .c) columns (t .args .k) (t .args .rec) (t .args .a) _ _ refl (c .before .before .before .before .mask-at .ensures))
+    (c .before .before .before .first-half .ensures) (c .before .half-units .ensures) (omega arith)
 
 class-at-requires-2 : tie.Need-class-at-requires-2
 class-at-requires-2 c κs = let t = c .before .before .before .before .before .before .before .before .before .before in
     class-asks (t .args .c) columns (t .args .k) (t .args .rec) (t .args .a) _ (t .pre) _ _ _ 1
-    (mask-is (t .args .c) columns (t .args .k) (t .args .rec) (t .args .a) _ _ refl (c .before .before .before .before .before .mask-at .ensures)) refl
-    (c .before .before .half-units .ensures) (omega arith)
+    (mask-is (t .args .c) columns (t .args .k) (t .args .rec) (t .args .a) _ _ refl (c .before .before .before .before .before .mask-at .ensures))
+    (c .before .before .before .before .first-half .ensures) (c .before .before .half-units .ensures) (omega arith)
 
 class-at-requires-3 : tie.Need-class-at-requires-3
 class-at-requires-3 c κs = let t = c .before .before .before .before .before .before .before .before .before .before .before in
     class-asks (t .args .c) columns (t .args .k) (t .args .rec) (t .args .a) _ (t .pre) _ _ _ 2
-    (mask-is (t .args .c) columns (t .args .k) (t .args .rec) (t .args .a) _ _ refl (c .before .before .before .before .before .before .mask-at .ensures)) refl
-    (c .before .before .before .half-units .ensures) (omega arith)
+    (mask-is (t .args .c) columns (t .args .k) (t .args .rec) (t .args .a) _ _ refl (c .before .before .before .before .before .before .mask-at .ensures))
+    (c .before .before .before .before .before .first-half .ensures) (c .before .before .before .half-units .ensures) (omega arith)
 
 level-of-requires : tie.Need-level-of-requires
 level-of-requires c κs =
     let c₈ = c .before .before .before .before .before .before .before .before in
     let c₉ = c₈ .before in
     let c₁₂ = c₉ .before .before .before in
-    (omega arith, c₁₂ .pre .plane, rw (c₈ .row-top .ensures, c₉ .record-left .ensures) (c₁₂ .pre .level))
+    (c₁₂ .pre .plane, rw (c₈ .row-top .ensures, c₉ .record-left .ensures) (c₁₂ .pre .level))
 
 mul-t19 : tie.Need-mul-t19
 mul-t19 c =
@@ -76,7 +76,8 @@ returns c =
     let t = c .before .before .before .before .before .before .before .before .before .before .before .before .before .before in
     line-make (t .args .c) columns (t .args .k) (t .args .rec) (t .args .a) (t .args .masks .now) _ _ _ _ _ _
     (ap (λ (x : ℕ). x + t .args .a) (c₁₁ .record-left .ensures)) (c₁₀ .row-top .ensures)
-    (mask-is (t .args .c) columns (t .args .k) (t .args .rec) (t .args .a) _ _ refl (c₉ .mask-at .ensures)) refl refl (c₆ .half-units .ensures) _ _ _ _ _
+    (mask-is (t .args .c) columns (t .args .k) (t .args .rec) (t .args .a) _ _ refl (c₉ .mask-at .ensures))
+    (c₆ .before .before .first-half .ensures) refl (c₆ .half-units .ensures) _ _ _ _ _
     (c₅ .sample-at .ensures) (c₄ .class-at .ensures) (c .before .before .before .class-at2 .ensures) (c .before .before .class-at3 .ensures) (c .before .level-of .ensures)
 
 pub column-line-spec : {M : Type 1} → statement M
@@ -87,7 +88,7 @@ column-line-spec =
     add-x
     row-top-requires
     mask-at-requires
-    mul-first
+    first-half-requires
     half-units-requires
     sample-at-requires
     class-at-requires

@@ -1,30 +1,30 @@
 -- `halves_at` meets its contract, by the count of halves.
 use mathlib.Core.Path.{_∙_}
-use Rattle.filter.proofs.LineWords.{two-halves, one-half}
+use Rattle.filter.proofs.LineWords.{both-halves, one-half}
 use borrow.Author.Needs.{needs}
 use Rattle.filter.proofs.lines.halves_at.Statement.{statement}
 use Rattle.filter.proofs.lines.halves_at.Tie as tie
 
-mul-both-halves : tie.Need-mul-both-halves
-mul-both-halves c = search needs
+mul-two-halves : tie.Need-mul-two-halves
+mul-two-halves c = search needs
 
-shared-slice-read-both-halves : tie.Need-shared-slice-read-both-halves
-shared-slice-read-both-halves c = search needs
+shared-slice-read-two-halves : tie.Need-shared-slice-read-two-halves
+shared-slice-read-two-halves c = search needs
 
-add-both-halves : tie.Need-add-both-halves
-add-both-halves c = search needs
+add-two-halves : tie.Need-add-two-halves
+add-two-halves c = search needs
 
-mul-both-halves-2 : tie.Need-mul-both-halves-2
-mul-both-halves-2 c = search needs
+mul-two-halves-2 : tie.Need-mul-two-halves-2
+mul-two-halves-2 c = search needs
 
-shared-slice-read-both-halves-2 : tie.Need-shared-slice-read-both-halves-2
-shared-slice-read-both-halves-2 c = search needs
+shared-slice-read-two-halves-2 : tie.Need-shared-slice-read-two-halves-2
+shared-slice-read-two-halves-2 c = search needs
 
-both-halves-requires : tie.Need-both-halves-requires
-both-halves-requires c κs = search needs
+two-halves-requires : tie.Need-two-halves-requires
+two-halves-requires c κs = search needs
 
 returns : tie.Need-returns
-returns c = c .both-halves .ensures ∙ two-halves (c .before .before .before .before .before .args .masks .now) (c .before .before .before .before .before .args .at)
+returns c = c .two-halves .ensures ∙ both-halves (c .before .before .before .before .before .args .masks .now) (c .before .before .before .before .before .args .at)
     (c .before .before .before .before .before .args .first) (c .before .before .before .before .before .args .n) (c .before .before .before .before .before .args .h)
     (c .before .before .before .if1 .taken)
 
@@ -48,12 +48,12 @@ pub halves-at-spec : {M : Type 1} → statement M
 halves-at-spec =
     tie.close
     (tie.spec
-    mul-both-halves
-    shared-slice-read-both-halves
-    add-both-halves
-    mul-both-halves-2
-    shared-slice-read-both-halves-2
-    both-halves-requires
+    mul-two-halves
+    shared-slice-read-two-halves
+    add-two-halves
+    mul-two-halves-2
+    shared-slice-read-two-halves-2
+    two-halves-requires
     returns
     add-as-u32
     mul-as-u32

@@ -3,7 +3,9 @@ use native.Mathlib.Omega.{arith}
 use mathlib.Core.Path.{ap, ap₂}
 use Prim.Native.Nat.{ℕ, _+_, _*_, _/_}
 use Rattle.units.specs.Frame.{records}
-use Rattle.gap.proofs.Frames.{records-small, record-place, start-in}
+use Rattle.plane.specs.Line.{passOf}
+use Rattle.units.proofs.Places.{pass-in}
+use Rattle.gap.proofs.Frames.{records-small, record-place}
 use Rattle.filter.proofs.LineWords.{units-le}
 use borrow.Author.Needs.{needs}
 use Rattle.filter.proofs.lines.mask_at.Statement.{statement}
@@ -32,24 +34,22 @@ add-record-start c =
     )
 
 record-start-requires : tie.Need-record-start-requires
-record-start-requires c κs = (
-  omega arith,
-  omega (
-    arith,
-    c .before .records-along .ensures,
-    records-small (c .before .before .args .k * c .before .before .args .sb4 .0 / 32) (records (c .before .before .args .w4 .0)) _ _ (c .record-row .ensures)
-        (c .before .records-along .ensures) (omega arith) (omega arith),
-  ),
-)
+record-start-requires c κs =
+    omega (
+      arith,
+      c .before .records-along .ensures,
+      records-small (c .before .before .args .k * c .before .before .args .sb4 .0 / 32) (records (c .before .before .args .w4 .0)) _ _
+          (c .record-row .ensures) (c .before .records-along .ensures) (omega arith) (omega arith),
+    )
 
-step-of-requires : tie.Need-step-of-requires
-step-of-requires c κs = search needs
+unit-words-requires : tie.Need-unit-words-requires
+unit-words-requires c κs = search needs
 
 mul-result : tie.Need-mul-result
 mul-result c =
     omega (
       arith,
-      ap (λ (n : ℕ). n * c .before .before .before .before .args .unit) (c .step-of .ensures),
+      ap (λ (n : ℕ). n * c .before .before .before .before .args .unit) (c .unit-words .ensures),
       units-le (c .before .before .before .before .args .luma) (c .before .before .before .before .args .unit) (omega arith),
     )
 
@@ -57,9 +57,9 @@ add-result : tie.Need-add-result
 add-result c =
     omega (
       arith,
-      ap (λ (n : ℕ). n * c .before .before .before .before .args .unit) (c .step-of .ensures),
+      ap (λ (n : ℕ). n * c .before .before .before .before .args .unit) (c .unit-words .ensures),
       units-le (c .before .before .before .before .args .luma) (c .before .before .before .before .args .unit) (omega arith),
-      start-in (c .before .before .before .before .args .luma) (c .before .before .before .before .args .pass) (omega arith),
+      pass-in (c .before .before .before .before .args .luma) (passOf (c .before .before .before .before .args .rowwise)),
       c .before .record-start .ensures,
       records-small (c .before .before .before .before .args .k * c .before .before .before .before .args .sb4 .0 / 32)
           (records (c .before .before .before .before .args .w4 .0)) _ _ (c .before .before .record-row .ensures) (c .before .before .before .records-along .ensures)
@@ -71,8 +71,8 @@ returns c =
     ap₂ (λ (m n : ℕ). m + n * c .before .before .before .before .args .unit)
     (record-place (c .before .before .before .before .args .k * c .before .before .before .before .args .sb4 .0 / 32)
     (records (c .before .before .before .before .args .w4 .0)) _ _ (c .before .before .record-row .ensures) (c .before .before .before .records-along .ensures)
-    (c .before .before .before .before .args .luma) (c .before .before .before .before .args .pass) (c .before .before .before .before .args .rec) _
-    (c .before .record-start .ensures)) (c .step-of .ensures)
+    (c .before .before .before .before .args .luma) (passOf (c .before .before .before .before .args .rowwise)) (c .before .before .before .before .args .rec) _
+    (c .before .record-start .ensures)) (c .unit-words .ensures)
 
 pub mask-at-spec : {M : Type 1} → statement M
 mask-at-spec =
@@ -83,7 +83,7 @@ mask-at-spec =
     mul-record-start
     add-record-start
     record-start-requires
-    step-of-requires
+    unit-words-requires
     mul-result
     add-result
     returns)

@@ -3,7 +3,7 @@ use native.Mathlib.Omega.{arith}
 use mathlib.Core.Path.{refl, ap}
 use Prim.Native.Nat.{ℕ, _+_}
 use Rattle.plane.specs.Line.{rows}
-use Rattle.gap.proofs.Frames.{rows-le}
+use Rattle.units.proofs.Places.{rows-le}
 use Rattle.filter.proofs.LineWords.{near, unit-lt, mask-is, class-asks, line-make}
 use borrow.Author.Needs.{needs}
 use Rattle.filter.proofs.lines.row_line.Statement.{statement}
@@ -32,7 +32,6 @@ add-unit c = let t = c .before .before .before .before .before in omega (arith, 
 
 mask-at-requires : tie.Need-mask-at-requires
 mask-at-requires c κs = let t = c .before .before .before .before .before in (
-  omega arith,
   t .pre .width,
   t .pre .row,
   t .pre .recordUnits,
@@ -74,7 +73,7 @@ level-of-requires c κs =
     let c₇ = c .before .before .before .before .before .before .before in
     let c₈ = c₇ .before in
     let c₁₁ = c₈ .before .before .before in
-    (omega arith, c₁₁ .pre .plane, rw (c₇ .row-top .ensures, c₈ .record-left .ensures) (c₁₁ .pre .level))
+    (c₁₁ .pre .plane, rw (c₇ .row-top .ensures, c₈ .record-left .ensures) (c₁₁ .pre .level))
 
 mul-t18 : tie.Need-mul-t18
 mul-t18 c =

@@ -2,7 +2,7 @@
 use native.Mathlib.Omega.{arith}
 use mathlib.Core.Path.{ap}
 use Prim.Native.Nat.{ℕ, _*_}
-use Rattle.gap.proofs.Frames.{rows-le}
+use Rattle.units.proofs.Places.{rows-le}
 use borrow.Author.Needs.{needs}
 use Rattle.filter.proofs.lines.row_top.Statement.{statement}
 use Rattle.filter.proofs.lines.row_top.Tie as tie

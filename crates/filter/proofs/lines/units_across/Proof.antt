@@ -3,7 +3,7 @@ use native.Mathlib.Omega.{arith}
 use mathlib.Core.Path.{sym, ap, _∙_}
 use mathlib.Core.Bool.{Bool}
 use Prim.Native.Nat.{ℕ, _/_, _^_}
-use Rattle.gap.specs.Lines.{inRecord}
+use Rattle.units.specs.Masks.{inRecord}
 use Rattle.units.proofs.Places.{side-le}
 use Rattle.plane.specs.Line.{passOf}
 use Rattle.filter.specs.Lines.{unitsAcross}

@@ -16,13 +16,13 @@ over-requires c κs = search needs
 half-word-requires-2 : tie.Need-half-word-requires-2
 half-word-requires-2 c κs = search needs
 
-word-requires : tie.Need-word-requires
-word-requires c κs = search needs
+two-halves-requires : tie.Need-two-halves-requires
+two-halves-requires c κs = search needs
 
 returns : tie.Need-returns
 returns c =
     word-make _ _ _ _ _ _ _ (c .before .before .before .before .least .ensures) (c .before .before .over .ensures)
-    (c .before .before .before .half-word .ensures) (c .before .half-word2 .ensures) (c .word .ensures)
+    (c .before .before .before .half-word .ensures) (c .before .half-word2 .ensures) (c .two-halves .ensures)
 
 pub line-word-spec : {M : Type 1} → statement M
 line-word-spec =
@@ -32,5 +32,5 @@ line-word-spec =
     half-word-requires
     over-requires
     half-word-requires-2
-    word-requires
+    two-halves-requires
     returns)

@@ -1,97 +1,80 @@
--- `class_word` meets its contract, by the kind of plane.
-use mathlib.Core.Path.{_∙_}
+-- `class_word` meets its contract: a class has its words among those of the unit, and chroma has no class 2.
+use mathlib.Core.Path.{_≡_, ap}
+use Prim.Native.Nat.{ℕ, _*_}
 use native.Mathlib.Omega.{arith}
 use borrow.Author.Needs.{needs}
-use Rattle.gap.proofs.Cells.{luma-in, chroma-in, luma-word, chroma-word, chroma-none}
+use Rattle.units.specs.Masks.{unitWords}
+use Rattle.gap.proofs.Cells.{class-in, last-in, some-class, few-classes, class-word, no-class}
 use Rattle.gap.proofs.track.class_word.Statement.{statement}
 use Rattle.gap.proofs.track.class_word.Tie as tie
 
-mul-word : tie.Need-mul-word
-mul-word c =
-    let f = luma-in (c .before .before .args .luma) (c .before .before .args .at) (c .before .before .args .i) _ (c .if1 .taken)
-    (c .before .before .pre .0) in
-    omega arith
+unit-words-requires : tie.Need-unit-words-requires
+unit-words-requires c κs = search needs
 
-add-word : tie.Need-add-word
-add-word c =
-    let f = luma-in (c .before .before .args .luma) (c .before .before .args .at) (c .before .before .args .i) _ (c .if1 .taken)
-    (c .before .before .pre .0) in
-    omega arith
+-- the words before the unit
+before : (w i u : ℕ) → w ≡ u → w * i ≡ u * i
+before w i u = ap (λ (n : ℕ). n * i)
 
-mul-word-2 : tie.Need-mul-word-2
-mul-word-2 c = search needs
+mul-first : tie.Need-mul-first
+mul-first c = let a = c .before .before .args in omega (arith, before _ (a .i) (unitWords (a .luma)) (c .unit-words .ensures))
 
-add-word-2 : tie.Need-add-word-2
-add-word-2 c =
-    let f = luma-in (c .before .before .args .luma) (c .before .before .args .at) (c .before .before .args .i) _ (c .if1 .taken)
-    (c .before .before .pre .0) in
-    omega arith
+add-first : tie.Need-add-first
+add-first c = let a = c .before .before .args in omega (arith, before _ (a .i) (unitWords (a .luma)) (c .unit-words .ensures))
+
+mul-first-2 : tie.Need-mul-first-2
+mul-first-2 c = search needs
+
+add-first-2 : tie.Need-add-first-2
+add-first-2 c =
+    let a = c .before .before .args in
+    omega (arith, before _ (a .i) (unitWords (a .luma)) (c .unit-words .ensures), last-in (a .luma) (a .c) (omega arith))
 
 word-requires : tie.Need-word-requires
 word-requires c κs =
-    let f = luma-in (c .before .before .args .luma) (c .before .before .args .at) (c .before .before .args .i) _ (c .if1 .taken)
-    (c .before .before .pre .0) in
-    omega arith
+    let a = c .before .before .before .args in
+    omega (
+      arith,
+      before _ (a .i) (unitWords (a .luma)) (c .before .unit-words .ensures),
+      class-in (a .luma) (a .c) (some-class (a .luma) (a .c) (c .if1 .taken) (omega arith)),
+    )
 
 returns : tie.Need-returns
 returns c =
-    c .word .ensures
-    ∙ luma-word (c .before .before .before .args .masks .now) (c .before .before .before .args .luma) (c .before .before .before .args .halves)
-    (c .before .before .before .args .at) (c .before .before .before .args .i) (c .before .before .before .args .c) (c .before .if1 .taken)
-
-mul-word-3 : tie.Need-mul-word-3
-mul-word-3 c =
-    let f = chroma-in (c .before .before .before .args .luma) (c .before .before .before .args .at) (c .before .before .before .args .i) _
-    (c .before .if1 .left) (c .before .before .before .pre .0) in
-    omega arith
-
-add-word-3 : tie.Need-add-word-3
-add-word-3 c =
-    let f = chroma-in (c .before .before .before .args .luma) (c .before .before .before .args .at) (c .before .before .before .args .i) _
-    (c .before .if1 .left) (c .before .before .before .pre .0) in
-    omega arith
-
-mul-word-4 : tie.Need-mul-word-4
-mul-word-4 c = search needs
-
-add-word-4 : tie.Need-add-word-4
-add-word-4 c =
-    let f = chroma-in (c .before .before .before .args .luma) (c .before .before .before .args .at) (c .before .before .before .args .i) _
-    (c .before .if1 .left) (c .before .before .before .pre .0) in
-    omega arith
+    let a = c .before .before .before .before .args in
+    class-word (a .masks .now) (a .luma) (a .halves) (a .at) (a .i) (a .c) _ _ (c .before .before .unit-words .ensures)
+    (some-class (a .luma) (a .c) (c .before .if1 .taken) (omega arith)) (c .word .ensures)
 
 word-requires-2 : tie.Need-word-requires-2
 word-requires-2 c κs =
-    let f = chroma-in (c .before .before .before .args .luma) (c .before .before .before .args .at) (c .before .before .before .args .i) _
-    (c .before .if1 .left) (c .before .before .before .pre .0) in
-    omega arith
+    let a = c .before .before .before .before .args in
+    omega (
+      arith,
+      before _ (a .i) (unitWords (a .luma)) (c .before .before .unit-words .ensures),
+      class-in (a .luma) (a .c) (few-classes (a .luma) (a .c) (omega arith)),
+    )
 
 returns-2 : tie.Need-returns-2
 returns-2 c =
-    c .word2 .ensures
-    ∙ chroma-word (c .before .before .before .before .args .masks .now) (c .before .before .before .before .args .luma) (c .before .before .before .before .args .halves)
-    (c .before .before .before .before .args .at) (c .before .before .before .before .args .i) (c .before .before .before .before .args .c)
-    (c .before .before .if1 .left) (omega arith)
+    let a = c .before .before .before .before .before .args in
+    class-word (a .masks .now) (a .luma) (a .halves) (a .at) (a .i) (a .c) _ _ (c .before .before .before .unit-words .ensures)
+    (few-classes (a .luma) (a .c) (omega arith)) (c .word2 .ensures)
 
 returns-3 : tie.Need-returns-3
 returns-3 c =
-    chroma-none (c .before .before .before .args .masks .now) (c .before .before .before .args .luma) (c .before .before .before .args .halves)
-    (c .before .before .before .args .at) (c .before .before .before .args .i) (c .before .before .before .args .c) (c .before .if1 .left) (omega arith)
+    let a = c .before .before .before .before .args in
+    no-class (a .masks .now) (a .luma) (a .halves) (a .at) (a .i) (a .c) (c .before .if1 .left) (omega arith)
 
 pub class-word-spec : {M : Type 1} → statement M
 class-word-spec =
     tie.close
     (tie.spec
-    mul-word
-    add-word
-    mul-word-2
-    add-word-2
+    unit-words-requires
+    mul-first
+    add-first
+    mul-first-2
+    add-first-2
     word-requires
     returns
-    mul-word-3
-    add-word-3
-    mul-word-4
-    add-word-4
     word-requires-2
     returns-2
     returns-3)

@@ -5,53 +5,53 @@ use Rattle.gap.specs.Track.{wordAt}
 use Rattle.gap.proofs.track.word.Statement.{statement}
 use Rattle.gap.proofs.track.word.Tie as tie
 
-mul-word : tie.Need-mul-word
-mul-word c = search needs
+mul-two-halves : tie.Need-mul-two-halves
+mul-two-halves c = search needs
 
-shared-slice-read-word : tie.Need-shared-slice-read-word
-shared-slice-read-word c = search needs
+shared-slice-read-two-halves : tie.Need-shared-slice-read-two-halves
+shared-slice-read-two-halves c = search needs
 
-add-word : tie.Need-add-word
-add-word c = search needs
+add-two-halves : tie.Need-add-two-halves
+add-two-halves c = search needs
 
-mul-word-2 : tie.Need-mul-word-2
-mul-word-2 c = search needs
+mul-two-halves-2 : tie.Need-mul-two-halves-2
+mul-two-halves-2 c = search needs
 
-shared-slice-read-word-2 : tie.Need-shared-slice-read-word-2
-shared-slice-read-word-2 c = search needs
+shared-slice-read-two-halves-2 : tie.Need-shared-slice-read-two-halves-2
+shared-slice-read-two-halves-2 c = search needs
 
-word-requires : tie.Need-word-requires
-word-requires c κs = search needs
+two-halves-requires : tie.Need-two-halves-requires
+two-halves-requires c κs = search needs
 
 returns : tie.Need-returns
 unfolding wordAt
-returns c = rw (eq-eqb (c .before .before .before .before .before .args .halves) 2 (c .before .before .before .if1 .taken)) (c .word .ensures)
+returns c = rw (eq-eqb (c .before .before .before .before .before .args .halves) 2 (c .before .before .before .if1 .taken)) (c .two-halves .ensures)
 
-mul-word-3 : tie.Need-mul-word-3
-mul-word-3 c = search needs
+mul-two-halves-3 : tie.Need-mul-two-halves-3
+mul-two-halves-3 c = search needs
 
-shared-slice-read-word-3 : tie.Need-shared-slice-read-word-3
-shared-slice-read-word-3 c = search needs
+shared-slice-read-two-halves-3 : tie.Need-shared-slice-read-two-halves-3
+shared-slice-read-two-halves-3 c = search needs
 
-word-requires-2 : tie.Need-word-requires-2
-word-requires-2 c κs = search needs
+two-halves-requires-2 : tie.Need-two-halves-requires-2
+two-halves-requires-2 c κs = search needs
 
 returns-2 : tie.Need-returns-2
 unfolding wordAt
-returns-2 c = rw (ne-eqb (c .before .before .before .before .args .halves) 2 (c .before .before .if1 .left)) (c .word2 .ensures)
+returns-2 c = rw (ne-eqb (c .before .before .before .before .args .halves) 2 (c .before .before .if1 .left)) (c .two-halves2 .ensures)
 
 pub word-spec : {M : Type 1} → statement M
 word-spec =
     tie.close
     (tie.spec
-    mul-word
-    shared-slice-read-word
-    add-word
-    mul-word-2
-    shared-slice-read-word-2
-    word-requires
+    mul-two-halves
+    shared-slice-read-two-halves
+    add-two-halves
+    mul-two-halves-2
+    shared-slice-read-two-halves-2
+    two-halves-requires
     returns
-    mul-word-3
-    shared-slice-read-word-3
-    word-requires-2
+    mul-two-halves-3
+    shared-slice-read-two-halves-3
+    two-halves-requires-2
     returns-2)

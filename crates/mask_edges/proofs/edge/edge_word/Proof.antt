@@ -1,33 +1,31 @@
 -- The word of the plane that is asked for.
-use Rattle.mask_edges.proofs.Words.{word-in}
-use Rattle.mask_edges.specs.Folds.{edgeWord}
-use mathlib.Core.Path.{_≡_}
-use Prim.Native.Nat.{_<_}
+use mathlib.Core.Bool.{Bool, true, false, not, cond}
+use mathlib.Core.Path.{_≡_, refl, _∙_}
+use Prim.Native.Nat.{ℕ, _<_}
 use native.Mathlib.Omega.{arith}
+use lib.Dec.{eqb}
+use Rattle.plane.specs.Line.{passOf}
+use Rattle.units.specs.Masks.{wordOf}
+use Rattle.units.proofs.Places.{by-ss}
+use Rattle.mask_edges.specs.Folds.{edgeWord, classes}
 use Rattle.mask_edges.proofs.edge.edge_word.Statement.{statement}
 use Rattle.mask_edges.proofs.edge.edge_word.Tie as tie
 
-chroma-word-requires : tie.Need-chroma-word-requires
-chroma-word-requires c κs =
-    let k : c .before .args .class < 2 = rw (c .if1 .taken) at (c .before .pre .2) in
-    (c .before .pre .0, c .before .pre .1, k, omega arith)
+same-classes : (chroma : Bool) (class : ℕ) → class < classes chroma → class < cond (not chroma) 3 2
+same-classes true class h = h
+same-classes false class h = h
+
+same-word : (chroma : Bool) (unit class pass : ℕ) → pass < 2 → wordOf (not chroma) (passOf (eqb pass 1)) unit class 0 ≡ edgeWord chroma pass unit class 0
+same-word true unit class pass h = by-ss (λ p. wordOf false (passOf (eqb p 1)) unit class 0 ≡ edgeWord true p unit class 0) refl refl pass (omega arith)
+same-word false unit class pass h = by-ss (λ p. wordOf true (passOf (eqb p 1)) unit class 0 ≡ edgeWord false p unit class 0) refl refl pass (omega arith)
+
+edge-word-requires : tie.Need-edge-word-requires
+edge-word-requires c κs = (c .pre .1, same-classes (c .args .chroma) (c .args .class) (c .pre .2))
 
 returns : tie.Need-returns
 returns c =
-    let e : c .chroma-word .result ≡ edgeWord (c .before .before .args .chroma) (c .before .before .args .pass) (c .before .before .args .unit)
-    (c .before .before .args .class) 0 = rw (c .before .if1 .taken) (c .chroma-word .ensures) in
-    (e, rw e (word-in _ _ _ (c .before .before .args .chroma) (c .before .before .pre .0) (c .before .before .pre .1) (c .before .before .pre .2)))
-
-luma-word-requires : tie.Need-luma-word-requires
-luma-word-requires c κs =
-    let k : c .before .args .class < 3 = rw (c .if1 .left) at (c .before .pre .2) in
-    (c .before .pre .0, c .before .pre .1, k, omega arith)
-
-returns-2 : tie.Need-returns-2
-returns-2 c =
-    let e : c .luma-word .result ≡ edgeWord (c .before .before .args .chroma) (c .before .before .args .pass) (c .before .before .args .unit)
-    (c .before .before .args .class) 0 = rw (c .before .if1 .left) (c .luma-word .ensures) in
-    (e, rw e (word-in _ _ _ (c .before .before .args .chroma) (c .before .before .pre .0) (c .before .before .pre .1) (c .before .before .pre .2)))
+    let s = c .before in
+    (c .edge-word .ensures .0 ∙ same-word (s .args .chroma) (s .args .unit) (s .args .class) (s .args .pass) (s .pre .0), c .edge-word .ensures .1)
 
 pub edge-word-spec : {M : Type 1} → statement M
-edge-word-spec = tie.close (tie.spec chroma-word-requires returns luma-word-requires returns-2)
+edge-word-spec = tie.close (tie.spec edge-word-requires returns)
