@@ -8,7 +8,7 @@ use Rattle.loops.specs.Table.{Each}
 use Rattle.loops.proofs.Tables.{each-at}
 use Rattle.standard.specs.FilterSize.{filterSize, filterLen}
 use Rattle.units.specs.Sizes.{log2, lumaClass, chromaClass, Side}
-use Rattle.walk.specs.Walk.{lumaLen, chromaLen}
+use Rattle.walk.specs.Walk.{lenOf}
 use Rattle.agree.specs.Legal.{classOf}
 use Rattle.agree.specs.Promises.{widthOf}
 
@@ -21,8 +21,7 @@ size luma n m = min (cond luma 16 8) (min (4 * n) (4 * m))
 
 abbrev Same : Bool → ℕ → ℕ → Type 0
 Same luma n m =
-    cond luma (lumaLen (min (class luma n) (class luma m))) (chromaLen (min (class luma n) (class luma m)))
-    ≡ cond (eqb (size luma n m) 4) 4 (cond luma (size luma n m) 6)
+    lenOf luma (min (class luma n) (class luma m)) ≡ cond (eqb (size luma n m) 4) 4 (cond luma (size luma n m) 6)
 
 abbrev Row : Bool → ℕ → Type 0
 Row luma i = Each 5 (λ j. Same luma (2 ^ i) (2 ^ j))

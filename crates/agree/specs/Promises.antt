@@ -15,13 +15,13 @@ use Rattle.standard.specs.Edge.{Frame, onScreen, applyFilter, edgeSize}
 use Rattle.standard.specs.FilterSize.{filterSize, filterLen}
 use Rattle.units.specs.Masks.{halfUnits, lumaBit}
 use Rattle.units.specs.Sizes.{Side}
-use Rattle.walk.specs.Walk.{lumaLen, chromaLen}
+use Rattle.walk.specs.Walk.{lenOf}
 use Rattle.decomp.specs.Split.{txAt}
 use Rattle.mask_edges.specs.Recording.{Block, Sweep, columns, rows, isEdge, classAt, contextAfter, Recorded, chromaBits, intraBlock, interBlock, chromaBlock}
 use Rattle.agree.specs.Legal.{Coded, left, top, rowAt, colAt, Legal, classOf, Shows, Tells, Sized}
 
 abbrev pub widthOf : ℕ → ℕ → ℕ
-widthOf plane c = cond (eqb plane 0) (lumaLen c) (chromaLen c)
+widthOf plane = lenOf (eqb plane 0)
 
 abbrev pub start : ℕ → ℕ
 start plane = cond (eqb plane 0) 2 1

@@ -1,6 +1,6 @@
 -- The samples after each pass at one place of each plane, the first past the corner where the areas meet, computed as a function of the index.
 use mathlib.Core.Path.{_≡_, refl, sym, ap, _∙_, subst⁻¹}
-use mathlib.Core.Bool.{true, not}
+use mathlib.Core.Bool.{true}
 use mathlib.Core.List.{List, [], _∷_, map}
 use Prim.Native.Nat.{ℕ, zero, suc, _+_, _*_, _<_}
 use mathlib.Core.Option.{some}
@@ -44,7 +44,7 @@ use Rattle.example_frame.proofs.Places.{Tells, Sound, pieceOf, piece-te
 -- ---- an edge, filtered at level 32 with the standard's bounds
 
 abbrev ruleOf : ℕ → ℕ → plane.Rule
-ruleOf n cls = rule (lenOf (not (eqb n 0)) cls) (bounds 8 3 32)
+ruleOf n cls = rule (lenOf (eqb n 0) cls) (bounds 8 3 32)
 
 abbrev first : ℕ → Pass → Piece → ℕ
 first n d p = ix d (strideOf head n) (4 * p .1) (4 * p .0)
@@ -53,7 +53,7 @@ abbrev level : ℕ → Pass → Piece → ℕ
 level n = levelOf (componentOf head n) (tablesOf head limits lent)
 
 sound : (n cls : ℕ) → Sound (ruleOf n cls)
-sound n cls = let w = width (not (eqb n 0)) cls in record { fewer = sizes w .written-read; gives = gives w (bounds 8 3 32) }
+sound n cls = let w = width (eqb n 0) cls in record { fewer = sizes w .written-read; gives = gives w (bounds 8 3 32) }
 
 bounds-are : thresholds 8 (limits .e) (limits .i) 32 ≡ bounds 8 3 32
 unfolding limitsOf
@@ -65,12 +65,12 @@ unfolding visit
 act-is n d p cls e z l =
     act-visit (componentOf head n) (tablesOf head limits lent) d p cls e l
     ∙ rw z
-    (ap (λ t. pieceAt (lineStep d (strideOf head n)) (sampleStep d (strideOf head n)) (rule (lenOf (not (eqb n 0)) cls) t) (first n d p) l) bounds-are)
+    (ap (λ t. pieceAt (lineStep d (strideOf head n)) (sampleStep d (strideOf head n)) (rule (lenOf (eqb n 0) cls) t) (first n d p) l) bounds-are)
 
 -- that level, and samples enough before it
 abbrev Ready : ℕ → Pass → Piece × ℕ → Type 0
 Ready n d e =
-    (level n d (e .0) ≡ 32) × (leb (reads (lenOf (not (eqb n 0)) (e .1)) * sampleStep d (strideOf head n)) (first n d (e .0)) ≡ true)
+    (level n d (e .0) ≡ 32) × (leb (reads (lenOf (eqb n 0) (e .1)) * sampleStep d (strideOf head n)) (first n d (e .0)) ≡ true)
 
 ready : (d : Pass) → Everywhere (λ n k. All (Ready n d) (edgesOf n d k))
 unfolding levels levelAt

@@ -17,11 +17,11 @@ use Rattle.units.specs.Masks.{unitWords, passStart, recordRow, twoHalves}
 use Rattle.units.specs.Memory.{levelAt}
 use Rattle.units.specs.Units.{chromaUnit}
 use Rattle.edges.specs.Edges.{half}
+use Rattle.walk.specs.declared.UnitLine.{UnitLine}
 use Rattle.units.proofs.Places.{side-le, rows-le, pass-in}
 use Rattle.gap.proofs.Masks.{along}
 use Rattle.gap.proofs.Shapes.{row-lines}
 use Rattle.filter.specs.declared.Component.{Component}
-use Rattle.filter.specs.declared.lines.UnitLine.{UnitLine}
 use Rattle.filter.specs.Filter.{gridOf, areaOf}
 use Rattle.filter.specs.Lines.{leftOf, topOf, acrossOf, unitIn, maskAt, startHalf, halvesOf, halvesAt, classAt, wordOf, alongStep, backStep, lineIn, Counted}
 
@@ -155,6 +155,7 @@ module _ (c : Component) (d : Pass) (k rec a : ℕ) where
           m0 = m0;
           m1 = m1;
           m2 = m2;
+          luma = eqb (c .plane) 0;
           at = at;
           along = alongStep c d;
           back = backStep c d;
@@ -171,6 +172,7 @@ module _ (c : Component) (d : Pass) (k rec a : ℕ) where
           m0 = class-is 0 m0 e0 j;
           m1 = class-is 1 m1 e1 j;
           m2 = class-is 2 m2 e2 j;
+          luma = eqb (c .plane) 0;
           at = fl j;
           along = alongStep c d;
           back = backStep c d;

@@ -1,7 +1,7 @@
 -- A line may be walked: under the gap rule a piece reads no sample before the plane's start, none past its stored end and, in rows, none past the row, and level bytes and
 -- samples are there.
 use mathlib.Core.Path.{_≡_, sym, ap, _∙_}
-use mathlib.Core.Bool.{Bool, true, false, cond, not, false≢true}
+use mathlib.Core.Bool.{Bool, true, false, cond, false≢true}
 use mathlib.Core.Logic.{by-cases}
 use mathlib.Core.Option.{Option, some, none}
 use Prim.Native.Nat.{ℕ, zero, suc, _+_, _-_, _*_, _≤_, _<_}
@@ -27,13 +27,14 @@ use Rattle.gap.specs.Numbers.{sbUnits, storedUnits, part}
 use Rattle.gap.specs.Promises.{Nowhere}
 use Rattle.gap.proofs.Shapes.{row-lines, row-halves, units-stored}
 use Rattle.gap.proofs.NumbersMean.{edge-in}
+use Rattle.walk.specs.declared.UnitLine.{UnitLine}
 use Rattle.walk.specs.Ready.{Ready, Walkable}
-use Rattle.walk.specs.Walk.{lenOf, Units, setIn, lenAt}
+use Rattle.walk.specs.Walk.{lenOf, setIn, lenAt}
 use Rattle.walk.specs.Walk as walk
 use Rattle.filter.specs.declared.Component.{Component}
 use Rattle.filter.specs.Filter.{Tables, gridOf, areaOf, before}
 use Rattle.filter.specs.Ready.{Stored, Fit}
-use Rattle.filter.specs.Lines.{unitAt, alongStep, lineIn, unitsIn, Inner}
+use Rattle.filter.specs.Lines.{unitAt, alongStep, lineIn, Inner}
 use Rattle.filter.proofs.UnitPlaces.{firstPlace, places, row-sizes}
 use Rattle.filter.proofs.Words.{picked, none-over}
 use Rattle.filter.proofs.UnitActs.{reads-is, index-is, level-place, before-place}
@@ -42,12 +43,12 @@ reach : (b : Bool) → Reach (cond b luma chroma .reads)
 reach true = fair-luma .reach
 reach false = fair-chroma .reach
 
-some-read : (uv : Bool) (class : ℕ) → 1 ≤ reads (lenOf uv class)
+some-read : (luma : Bool) (class : ℕ) → 1 ≤ reads (lenOf luma class)
 some-read true zero = omega arith
-some-read true (suc class) = omega arith
+some-read true (suc zero) = omega arith
+some-read true (suc (suc class)) = omega arith
 some-read false zero = omega arith
-some-read false (suc zero) = omega arith
-some-read false (suc (suc class)) = omega arith
+some-read false (suc class) = omega arith
 
 module _ (c : Component) (t : Tables) (k len : ℕ) (s : Stored c t len) where
   -- superblock row k is stored
@@ -194,8 +195,8 @@ step-in c t len rows s h = omega (arith, s .levels-long, s .levels-wide, s .some
 
 module _ (c : Component) (t : Tables) (d : Pass) (k rec a len : ℕ) (s : Stored c t len) (f : Fit c t d k) (i : Inner c d k rec a)
     (small : (j : ℕ) → getD (t .masks) j 0 < 65536) where
-  abbrev U : Units
-  U = unitsIn c (t .levels) (lineIn c (t .masks) d k rec a)
+  abbrev U : UnitLine
+  U = lineIn c (t .masks) d k rec a
 
   module _ (v : ℕ) (h : hasBit (setIn U) v ≡ true) where
     in-place : v < places c d
@@ -203,17 +204,17 @@ module _ (c : Component) (t : Tables) (d : Pass) (k rec a len : ℕ) (s : Stored
         by-cases (decLt v (places c d)) (λ x. x)
         (λ x. absurd (false≢true (sym (none-over c t d k rec a len s f i small v (omega arith)) ∙ h)))
 
-    is-edge : edge (gridOf c) (t .masks) d (unitAt c d k rec a, firstPlace c d k rec + v) ≡ some (walk.highest (U .m₁) (U .m₂) v)
+    is-edge : edge (gridOf c) (t .masks) d (unitAt c d k rec a, firstPlace c d k rec + v) ≡ some (walk.highest (U .m1) (U .m2) v)
     is-edge =
-        picked c t d k rec a len s f i small v in-place ∙ ap (λ (b : Bool). cond b (some (walk.highest (U .m₁) (U .m₂) v)) none) h
+        picked c t d k rec a len s f i small v in-place ∙ ap (λ (b : Bool). cond b (some (walk.highest (U .m1) (U .m2) v)) none) h
 
     pub reads-at : Reads c d k rec a v (reads (lenAt U v))
     reads-at =
-        let e = reads-is (eqb (c .plane) 0) (walk.highest (U .m₁) (U .m₂) v) in
-        let x = edge-in (gridOf c) (t .masks) d (unitAt c d k rec a, firstPlace c d k rec + v) (walk.highest (U .m₁) (U .m₂) v) is-edge in
-        let w = gap-reads c t k rec a len s v (walk.highest (U .m₁) (U .m₂) v) d f i in-place is-edge in
+        let e = reads-is (eqb (c .plane) 0) (walk.highest (U .m1) (U .m2) v) in
+        let x = edge-in (gridOf c) (t .masks) d (unitAt c d k rec a, firstPlace c d k rec + v) (walk.highest (U .m1) (U .m2) v) is-edge in
+        let w = gap-reads c t k rec a len s v (walk.highest (U .m1) (U .m2) v) d f i in-place is-edge in
         record {
-          some = some-read (not (eqb (c .plane) 0)) (walk.highest (U .m₁) (U .m₂) v);
+          some = some-read (eqb (c .plane) 0) (walk.highest (U .m1) (U .m2) v);
           start = omega (arith, e, w .0);
           end = omega (arith, e, w .1);
           across = x .0;
@@ -221,7 +222,7 @@ module _ (c : Component) (t : Tables) (d : Pass) (k rec a len : ℕ) (s : Stored
           place = in-place;
         }
 
-    ready : Ready U len v
+    ready : Ready (t .levels) U len v
     ready =
         let r = reads-at in
         let p = level-place c k rec a v d (areaOf c d) in
@@ -240,5 +241,5 @@ module _ (c : Component) (t : Tables) (d : Pass) (k rec a len : ℕ) (s : Stored
           to = rw (← q) (to-in c t k rec a v (reads (lenAt U v)) len s d (f .row) r);
         }
 
-  pub walkable : Walkable U len
+  pub walkable : Walkable (t .levels) U len
   walkable = record { step = step-in c t len d s (omega (arith, f .row)); ready = ready }

@@ -13,13 +13,14 @@ use Rattle.units.specs.Units.{chromaUnit}
 use Rattle.line.specs.Width.{reads}
 use Rattle.piece.specs.Samples.{index, PieceUnder}
 use Rattle.gap.proofs.Shapes.{units-stored}
+use Rattle.walk.specs.declared.UnitLine.{UnitLine}
 use Rattle.walk.specs.Ready.{InRange}
-use Rattle.walk.specs.Walk.{Units, lenAt, walked}
+use Rattle.walk.specs.Walk.{lenAt, walked}
 use Rattle.walk.proofs.Ranges.{visits-below}
 use Rattle.filter.specs.declared.Component.{Component}
 use Rattle.filter.specs.Filter.{Tables}
 use Rattle.filter.specs.Ready.{Stored, Fit, Under}
-use Rattle.filter.specs.Lines.{unitAt, lineIn, unitsIn, Inner}
+use Rattle.filter.specs.Lines.{unitAt, lineIn, Inner}
 use Rattle.filter.proofs.UnitPlaces.{firstPlace}
 use Rattle.filter.proofs.UnitActs.{index-is}
 use Rattle.filter.proofs.PieceRooms.{Reads, reads-at, walkable}
@@ -72,8 +73,8 @@ module _ (c : Component) (t : Tables) (k rec a v n len m : ℕ) (s : Stored c t 
 
 module _ (c : Component) (t : Tables) (d : Pass) (k rec a len m : ℕ) (s : Stored c t len) (f : Fit c t d k) (i : Inner c d k rec a)
     (small : (j : ℕ) → getD (t .masks) j 0 < 65536) (l : List ℕ) (b : Under m c d k l) where
-  abbrev U : Units
-  U = unitsIn c (t .levels) (lineIn c (t .masks) d k rec a)
+  abbrev U : UnitLine
+  U = lineIn c (t .masks) d k rec a
 
   pub in-range : InRange m U l
   in-range =
@@ -85,10 +86,10 @@ module _ (c : Component) (t : Tables) (d : Pass) (k rec a len m : ℕ) (s : Stor
 -- a walk keeps the samples in range
 pub stays : (c : Component) (t : Tables) (d : Pass) (k rec a : ℕ) (l : List ℕ) → Stored c t (length l) → Fit c t d k → Inner c d k rec a
     → ((j : ℕ) → getD (t .masks) j 0 < 65536) → 8 ≤ t .depth → Under (2 ^ t .depth) c d k l
-    → Under (2 ^ t .depth) c d k (walked (t .depth) (t .e) (t .i) (unitsIn c (t .levels) (lineIn c (t .masks) d k rec a)) l)
+    → Under (2 ^ t .depth) c d k (walked (t .depth) (t .e) (t .i) (t .levels) (lineIn c (t .masks) d k rec a) l)
 unfolding walked
 stays c t d k rec a l s f i small h b =
     record {
-      under = λ x y p q r. visits-below (t .depth) (t .e) (t .i) (unitsIn c (t .levels) (lineIn c (t .masks) d k rec a)) l h
+      under = λ x y p q r. visits-below (t .depth) (t .e) (t .i) (t .levels) (lineIn c (t .masks) d k rec a) l h
           (walkable c t d k rec a (length l) s f i small) (in-range c t d k rec a (length l) (2 ^ t .depth) s f i small l b) 32 (y * c .stride + x) (b .under x y p q r);
     }

@@ -1,6 +1,5 @@
 -- A pass over a superblock row is the plane's, keeps the length, and keeps the samples in range: each line does, by its walk or by doing nothing.
 use mathlib.Core.Path.{_≡_, refl, sym, _∙_, subst}
-use mathlib.Core.Bool.{not}
 use mathlib.Core.List.{List}
 use mathlib.Core.Logic.{by-cases}
 use mathlib.Core.Option.{Option, some, none}
@@ -26,7 +25,7 @@ use Rattle.walk.proofs.Ranges.{visit-below, visits-below}
 use Rattle.filter.specs.declared.Component.{Component}
 use Rattle.filter.specs.Filter.{Tables, gridOf, levelOf, planeOf, firstAcross, firstAlong, across, along, lineOf, sweepOf}
 use Rattle.filter.specs.Ready.{Stored, Fit, Under}
-use Rattle.filter.specs.Lines.{unitAt, unitsAcross, lineIn, unitsIn, Inner}
+use Rattle.filter.specs.Lines.{unitAt, unitsAcross, lineIn, Inner}
 use Rattle.filter.specs.Promises.{Promises}
 use Rattle.filter.proofs.UnitPlaces.{places-le}
 use Rattle.filter.proofs.UnitActs.{reads-is, act-visit, line-walked}
@@ -79,12 +78,12 @@ module _ (c : Component) (t : Tables) (d : Pass) (p : Piece) (s : List ℕ) (h :
     where
       go : (o : Option ℕ) → class (planeOf c t) d p ≡ o → getD (act (planeOf c t) d p s) j 0 < 2 ^ t .depth
       go (some cls) e =
-          let len = lenOf (not (eqb (c .plane) 0)) cls in
+          let len = lenOf (eqb (c .plane) 0) cls in
           let r = reads-is (eqb (c .plane) 0) cls in
           let x = f cls e in
           rw (act-visit c t d p cls e s)
           (visit-below (t .depth) (t .e) (t .i) (lineStep d (c .stride)) (sampleStep d (c .stride)) (levelOf c t d p) (ix d (c .stride) (4 * p .1) (4 * p .0)) s
-          h (width (not (eqb (c .plane) 0)) cls) (low-in d (c .stride) (reads len) p (omega arith))
+          h (width (eqb (c .plane) 0) cls) (low-in d (c .stride) (reads len) p (omega arith))
           (subst (λ (n : ℕ). PieceUnder (2 ^ t .depth) n (lineStep d (c .stride)) (sampleStep d (c .stride)) (ix d (c .stride) (4 * p .1) (4 * p .0)) s) r (x .1)) j l)
       go none e = rw (idle (planeOf c t) d p e s) l
 
@@ -106,7 +105,7 @@ module _ (c : Component) (t : Tables) (k len j : ℕ) (sample-step : Stored c t 
           line-keeps len (planeOf c t) d k rec a s (b .0),
           subst (Under (2 ^ t .depth) c d k) (sym e) (stays c t d k rec a s S f i w h (b .1)),
           subst (λ (l : List ℕ). getD l j 0 < 2 ^ t .depth) (sym e)
-              (visits-below (t .depth) (t .e) (t .i) (unitsIn c (t .levels) (lineIn c (t .masks) d k rec a)) s h
+              (visits-below (t .depth) (t .e) (t .i) (t .levels) (lineIn c (t .masks) d k rec a) s h
               (walkable c t d k rec a (length s) S f i w) (in-range c t d k rec a (length s) (2 ^ t .depth) S f i w s (b .1)) 32 j (b .2)),
         )
 

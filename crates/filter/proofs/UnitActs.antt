@@ -1,6 +1,6 @@
 -- What the plane does along a line is its walk: at a place with an edge `act` is the visit of that place, at any other nothing, and past the line's places no bit is set.
 use mathlib.Core.Path.{_≡_, refl, sym, ap, ap₂, _∙_}
-use mathlib.Core.Bool.{Bool, true, false, cond, not}
+use mathlib.Core.Bool.{Bool, true, false, cond}
 use mathlib.Core.List.{List, []}
 use mathlib.Core.Option.{Option, some, none}
 use Prim.Native.Nat.{ℕ, zero, suc, _+_, _-_, _*_, _≤_, _<_}
@@ -18,25 +18,26 @@ use Rattle.line.specs.Rule.{rule}
 use Rattle.line.specs.Width.{reads, writes}
 use Rattle.units.specs.Memory.{levelAt}
 use Rattle.view.specs.Level.{levelUsed}
-use Rattle.walk.specs.Walk.{thresholds, lenOf, Units, setIn, visit, visitAt, walked}
+use Rattle.walk.specs.declared.UnitLine.{UnitLine}
+use Rattle.walk.specs.Walk.{thresholds, lenOf, setIn, visit, visitAt, walked}
 use Rattle.walk.specs.Walk as walk
 use Rattle.filter.specs.declared.Component.{Component}
 use Rattle.filter.specs.Filter.{Tables, areaOf, before, levelOf, planeOf, lineOf}
 use Rattle.filter.specs.Ready.{Stored, Fit}
-use Rattle.filter.specs.Lines.{leftOf, topOf, unitAt, alongStep, backStep, lineIn, unitsIn, Inner}
+use Rattle.filter.specs.Lines.{leftOf, topOf, unitAt, alongStep, backStep, lineIn, Inner}
 use Rattle.filter.proofs.UnitPlaces.{firstPlace, places}
 use Rattle.filter.proofs.Words.{picked, none-over}
 
 -- ---- one piece
 
-pub reads-is : (b : Bool) (class : ℕ) → cond b luma chroma .reads class ≡ reads (lenOf (not b) class)
+pub reads-is : (b : Bool) (class : ℕ) → cond b luma chroma .reads class ≡ reads (lenOf b class)
 reads-is true zero = refl
 reads-is true (suc zero) = refl
 reads-is true (suc (suc class)) = refl
 reads-is false zero = refl
 reads-is false (suc class) = refl
 
-writes-is : (b : Bool) (class : ℕ) → cond b luma chroma .writes class ≡ writes (lenOf (not b) class)
+writes-is : (b : Bool) (class : ℕ) → cond b luma chroma .writes class ≡ writes (lenOf b class)
 writes-is true zero = refl
 writes-is true (suc zero) = refl
 writes-is true (suc (suc class)) = refl
@@ -53,12 +54,12 @@ unused false r n m line-step sample-step q s en em = (λ j. pieceAt line-step sa
 
 module _ (c : Component) (t : Tables) (d : Pass) (p : Piece) where
   pub act-visit : (cls : ℕ) → class (planeOf c t) d p ≡ some cls → (s : List ℕ) → act (planeOf c t) d p s
-      ≡ visit (t .depth) (t .e) (t .i) (lineStep d (c .stride)) (sampleStep d (c .stride)) (lenOf (not (eqb (c .plane) 0)) cls) (levelOf c t d p)
+      ≡ visit (t .depth) (t .e) (t .i) (lineStep d (c .stride)) (sampleStep d (c .stride)) (lenOf (eqb (c .plane) 0) cls) (levelOf c t d p)
       (ix d (c .stride) (4 * p .1) (4 * p .0)) s
   unfolding act piece visit
   act-visit cls e s =
       rw e
-      (unused (eqb (levelOf c t d p) 0) (rule (lenOf (not (eqb (c .plane) 0)) cls) (thresholds (t .depth) (t .e) (t .i) (levelOf c t d p)))
+      (unused (eqb (levelOf c t d p) 0) (rule (lenOf (eqb (c .plane) 0) cls) (thresholds (t .depth) (t .e) (t .i) (levelOf c t d p)))
       (cond (eqb (c .plane) 0) luma chroma .reads cls) (cond (eqb (c .plane) 0) luma chroma .writes cls) (lineStep d (c .stride)) (sampleStep d (c .stride))
       (ix d (c .stride) (4 * p .1) (4 * p .0)) s (reads-is (eqb (c .plane) 0) cls) (writes-is (eqb (c .plane) 0) cls))
 
@@ -100,14 +101,14 @@ module _ (c : Component) (t : Tables) (k rec a : ℕ) where
   line-places rows l = refl
 
   module _ (len : ℕ) (s : Stored c t len) (d : Pass) (f : Fit c t d k) (i : Inner c d k rec a) (small : (j : ℕ) → getD (t .masks) j 0 < 65536) where
-    abbrev U : Units
-    U = unitsIn c (t .levels) (lineIn c (t .masks) d k rec a)
+    abbrev U : UnitLine
+    U = lineIn c (t .masks) d k rec a
 
     class-is : (v : ℕ) → v < places c d → class (planeOf c t) d (unitAt c d k rec a, firstPlace c d k rec + v)
-        ≡ cond (hasBit (setIn U) v) (some (walk.highest (U .m₁) (U .m₂) v)) none
+        ≡ cond (hasBit (setIn U) v) (some (walk.highest (U .m1) (U .m2) v)) none
     class-is v l = inner-pos (unitAt c d k rec a) _ (i .first) ∙ picked c t d k rec a len s f i small v l
 
-    level-is : (v : ℕ) → levelOf c t d (unitAt c d k rec a, firstPlace c d k rec + v) ≡ walk.levelAt U v
+    level-is : (v : ℕ) → levelOf c t d (unitAt c d k rec a, firstPlace c d k rec + v) ≡ walk.levelAt (t .levels) U v
     level-is v =
         let e : levelAt (c .«level_stride») (right d (before (unitAt c d k rec a, firstPlace c d k rec + v)))
         (down d (before (unitAt c d k rec a, firstPlace c d k rec + v))) (areaOf c d) ≡ U .at + v * U .along - U .back =
@@ -115,20 +116,20 @@ module _ (c : Component) (t : Tables) (k rec a : ℕ) where
         ap₂ (λ (x y : ℕ). levelUsed (getD (t .levels) x 0) (getD (t .levels) y 0)) (level-place c k rec a v d (areaOf c d)) e
 
     step : (v : ℕ) → v < places c d → (l : List ℕ) → act (planeOf c t) d (unitAt c d k rec a, firstPlace c d k rec + v) l
-        ≡ cond (hasBit (setIn U) v) (visitAt (t .depth) (t .e) (t .i) U v l) l
+        ≡ cond (hasBit (setIn U) v) (visitAt (t .depth) (t .e) (t .i) (t .levels) U v l) l
     step v lv l = go (hasBit (setIn U) v) (class-is v lv)
       where
-        go : (b : Bool) → class (planeOf c t) d (unitAt c d k rec a, firstPlace c d k rec + v) ≡ cond b (some (walk.highest (U .m₁) (U .m₂) v)) none
-            → act (planeOf c t) d (unitAt c d k rec a, firstPlace c d k rec + v) l ≡ cond b (visitAt (t .depth) (t .e) (t .i) U v l) l
+        go : (b : Bool) → class (planeOf c t) d (unitAt c d k rec a, firstPlace c d k rec + v) ≡ cond b (some (walk.highest (U .m1) (U .m2) v)) none
+            → act (planeOf c t) d (unitAt c d k rec a, firstPlace c d k rec + v) l ≡ cond b (visitAt (t .depth) (t .e) (t .i) (t .levels) U v l) l
         go true e =
             act-visit c t d (unitAt c d k rec a, firstPlace c d k rec + v) _ e l
-            ∙ ap₂ (λ (x y : ℕ). visit (t .depth) (t .e) (t .i) (U .line-step) (U .sample-step) (walk.lenAt U v) x y l) (level-is v) (index-is c k rec a v d)
+            ∙ ap₂ (λ (x y : ℕ). visit (t .depth) (t .e) (t .i) (U .«line_step») (U .«sample_step») (walk.lenAt U v) x y l) (level-is v) (index-is c k rec a v d)
         go false e = idle (planeOf c t) d (unitAt c d k rec a, firstPlace c d k rec + v) e l
 
-    pub line-walked : places c d ≤ 32 → (l : List ℕ) → lineOf (planeOf c t) d k rec a l ≡ walked (t .depth) (t .e) (t .i) U l
+    pub line-walked : places c d ≤ 32 → (l : List ℕ) → lineOf (planeOf c t) d k rec a l ≡ walked (t .depth) (t .e) (t .i) (t .levels) U l
     unfolding walked visits
     line-walked few l =
         line-places d l
         ∙ upTo-same _ _ (places c d) step l
-        ∙ sym (upTo-idle (λ v m. cond (hasBit (setIn U) v) (visitAt (t .depth) (t .e) (t .i) U v m) m) (places c d) 32
+        ∙ sym (upTo-idle (λ v m. cond (hasBit (setIn U) v) (visitAt (t .depth) (t .e) (t .i) (t .levels) U v m) m) (places c d) 32
         (λ v x m. rw (none-over c t d k rec a len s f i small v x) refl) few l)

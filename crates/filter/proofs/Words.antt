@@ -23,12 +23,13 @@ use Rattle.units.proofs.Places.{word-at}
 use Rattle.edges.specs.Edges.{Grid, unitsOf, half, recordAt, classes, wordIn, edgeBit, highest, edge}
 use Rattle.gap.specs.Numbers.{halfBit}
 use Rattle.gap.proofs.Masks.{along, edge-bit}
-use Rattle.walk.specs.Walk.{Units, setIn}
+use Rattle.walk.specs.declared.UnitLine.{UnitLine}
+use Rattle.walk.specs.Walk.{setIn}
 use Rattle.walk.specs.Walk as walk
 use Rattle.filter.specs.declared.Component.{Component}
 use Rattle.filter.specs.Filter.{Tables, gridOf}
 use Rattle.filter.specs.Ready.{Stored, Fit}
-use Rattle.filter.specs.Lines.{unitAt, unitIn, maskAt, startHalf, halvesOf, halvesAt, classAt, wordOf, lineIn, unitsIn, Inner}
+use Rattle.filter.specs.Lines.{unitAt, unitIn, maskAt, startHalf, halvesOf, halvesAt, classAt, wordOf, lineIn, Inner}
 use Rattle.filter.proofs.UnitPlaces.{recAlong, firstPlace, places, Spot, spot}
 
 -- a half that has no bit from h on
@@ -198,11 +199,11 @@ module _ (c : Component) (t : Tables) (d : Pass) (k rec a len : ℕ) (s : Stored
 
   -- ---- the edge at place v
 
-  abbrev U : Units
-  U = unitsIn c (t .levels) (lineIn c (t .masks) d k rec a)
+  abbrev U : UnitLine
+  U = lineIn c (t .masks) d k rec a
 
-  set-in : (v : ℕ) → hasBit (setIn U) v ≡ ((hasBit (U .m₀) v || hasBit (U .m₁) v) || hasBit (U .m₂) v)
-  set-in v = hasBit-or (bitOr (U .m₀) (U .m₁)) (U .m₂) v ∙ ap (λ (b : Bool). b || hasBit (U .m₂) v) (hasBit-or (U .m₀) (U .m₁) v)
+  set-in : (v : ℕ) → hasBit (setIn U) v ≡ ((hasBit (U .m0) v || hasBit (U .m1) v) || hasBit (U .m2) v)
+  set-in v = hasBit-or (bitOr (U .m0) (U .m1)) (U .m2) v ∙ ap (λ (b : Bool). b || hasBit (U .m2) v) (hasBit-or (U .m0) (U .m1) v)
 
   few : (class : ℕ) → class < 2 → class < classes G
   few class l = go (eqb (c .plane) 0)
@@ -260,13 +261,13 @@ module _ (c : Component) (t : Tables) (d : Pass) (k rec a len : ℕ) (s : Stored
 
     -- the edge at a set place is of the highest class set, and at no other place is there one
     pub picked : edge G (t .masks) d (u, firstPlace c d k rec + v)
-        ≡ cond (hasBit (setIn U) v) (some (walk.highest (U .m₁) (U .m₂) v)) none
+        ≡ cond (hasBit (setIn U) v) (some (walk.highest (U .m1) (U .m2) v)) none
     picked =
         edge-is
         ∙ three (eqb (c .plane) 0) (λ class. isSet (t .masks) (edgeBit G d (u, firstPlace c d k rec + v) class))
         ∙ (λ q. cond (third (eqb (c .plane) 0) refl q) (some 2) (cond (sym (set-bit 1 (few 1 (omega arith))) q) (some 1) (cond (sym (set-bit 0 (few 0 (omega arith))) q) (some 0) none)))
-        ∙ pick (hasBit (U .m₀) v) (hasBit (U .m₁) v) (hasBit (U .m₂) v)
-        ∙ ap (λ (b : Bool). cond b (some (walk.highest (U .m₁) (U .m₂) v)) none) (sym (set-in v))
+        ∙ pick (hasBit (U .m0) v) (hasBit (U .m1) v) (hasBit (U .m2) v)
+        ∙ ap (λ (b : Bool). cond b (some (walk.highest (U .m1) (U .m2) v)) none) (sym (set-in v))
 
   over-class : (class v : ℕ) → places c d ≤ v → hasBit (wordOf c (t .masks) d k rec a class) v ≡ false
   unfolding classAt

@@ -10,7 +10,7 @@
 --   ruleOf c t d cls p       what the piece at p does to a line: nothing at level 0
 --   planeOf c t              the plane
 --   firstAcross, firstAlong, across, along, sweepOf     colsOf and rowsOf in one: in each recordUnits the units across the pass, at each the units along it
-use mathlib.Core.Bool.{Bool, cond, not}
+use mathlib.Core.Bool.{cond}
 use mathlib.Core.List.{List, []}
 use Prim.Native.Nat.{ℕ, suc, _+_, _-_, _*_}
 use lib.Dec.{eqb}
@@ -57,7 +57,7 @@ abbrev pub changeAt : Tables → ℕ → ℕ → List ℕ → Change
 changeAt t len lvl l = cond (eqb lvl 0) (record { side = 0; samples = [] }) (rule len (thresholds (t .depth) (t .e) (t .i) lvl) .rule l)
 
 abbrev pub ruleOf : Component → Tables → Pass → ℕ → Piece → List ℕ → Change
-ruleOf c t d cls p = changeAt t (lenOf (not (eqb (c .plane) 0)) cls) (levelOf c t d p)
+ruleOf c t d cls p = changeAt t (lenOf (eqb (c .plane) 0) cls) (levelOf c t d p)
 
 abbrev pub planeOf : Component → Tables → Plane
 planeOf c t =

@@ -10,12 +10,12 @@
 --   classAt                 that of a class; there is no class 2 in chroma
 --   wordOf                  that of the line
 --   alongStep, backStep     from a level byte to the next, and back to the unit before the edge
---   lineIn, unitsIn         the line, as the code has it and as `walk` takes it
+--   lineIn                  the line, as `walk` takes it
 --   recordSweep                 what is done along the lines of a recordUnits
 --   Counted                 what the numbers of a line ask: no sum wraps, and the masks hold the record
 --   Inner                   the line lies in the frame, and not at its start
 use mathlib.Core.Path.{_≡_}
-use mathlib.Core.Bool.{Bool, not, cond}
+use mathlib.Core.Bool.{Bool, cond}
 use mathlib.Core.List.{List}
 use mathlib.Core.Logic.{_⊎_}
 use Prim.Native.Nat.{ℕ, _+_, _*_, _/_, _^_, _≤_, _<_}
@@ -29,9 +29,8 @@ use Rattle.units.specs.Masks.{unitWords, passStart, inRecord, recordRow, firstL
 use Rattle.units.specs.Memory.{levelAt}
 use Rattle.units.specs.Units.{chromaUnit}
 use Rattle.edges.specs.Edges.{Proper, unitsOf, side, half}
-use Rattle.walk.specs.Walk.{Units, units}
+use Rattle.walk.specs.declared.UnitLine.{UnitLine}
 use Rattle.filter.specs.declared.Component.{Component}
-use Rattle.filter.specs.declared.lines.UnitLine.{UnitLine}
 use Rattle.filter.specs.Filter.{gridOf, areaOf, across, lineOf}
 
 abbrev pub leftOf : Component → Pass → ℕ → ℕ → ℕ
@@ -100,14 +99,11 @@ lineIn c ms d k rec a =
       m0 = wordOf c ms d k rec a 0;
       m1 = wordOf c ms d k rec a 1;
       m2 = wordOf c ms d k rec a 2;
+      luma = eqb (c .plane) 0;
       at = levelAt (c .«level_stride») (leftOf c d rec a) (topOf c d k a) (areaOf c d);
       along = alongStep c d;
       back = backStep c d;
     }
-
-abbrev pub unitsIn : Component → List ℕ → UnitLine → Units
-unitsIn c levels l =
-    units (l .q) (l .«line_step») (l .«sample_step») (l .m0) (l .m1) (l .m2) (not (eqb (c .plane) 0)) levels (l .at) (l .along) (l .back)
 
 -- the lines of a recordUnits
 unfoldable pub recordSweep : Plane → Pass → ℕ → ℕ → List ℕ → List ℕ

@@ -42,23 +42,7 @@ fn line_8(
     ensures { λ _. ⌜ now (dst .exit) ≡ lineOf (planeOf c (tables 8 (now (levels .entry)) (now (masks .entry)) (now (e .entry)) (now (i .entry)))) (passOf rowwise) k rec a (now (dst .entry)) ⌝ }
 {
     let l = lines::line_of(masks, c, rowwise, k, rec, a);
-    let uv = c.plane != 0;
-    walk::walk_8(
-        dst,
-        l.q,
-        l.line_step,
-        l.sample_step,
-        l.m0,
-        l.m1,
-        l.m2,
-        uv,
-        levels,
-        l.at,
-        l.along,
-        l.back,
-        e,
-        i,
-    );
+    walk::walk_8(dst, l, levels, e, i);
 }
 
 fn record_8(
@@ -122,24 +106,7 @@ fn line_16(
         (passOf rowwise) k rec a (now (dst .entry))) × Under (2 ^ depth) c (passOf rowwise) k (now (dst .exit)) ⌝ }
 {
     let l = lines::line_of(masks, c, rowwise, k, rec, a);
-    let uv = c.plane != 0;
-    walk::walk_16(
-        dst,
-        l.q,
-        l.line_step,
-        l.sample_step,
-        l.m0,
-        l.m1,
-        l.m2,
-        uv,
-        levels,
-        l.at,
-        l.along,
-        l.back,
-        e,
-        i,
-        depth,
-    );
+    walk::walk_16(dst, l, levels, e, i, depth);
 }
 
 fn record_16(

@@ -13,6 +13,7 @@ use units::masks::record_start;
 use units::masks::row_units;
 use units::masks::two_halves;
 use units::masks::unit_words;
+use walk::UnitLine;
 ghost use mathlib.Core.Path.{_≡_};
 ghost use mathlib.Core.Bool.{cond};
 ghost use Prim.Native.Nat.{_+_, _*_, _/_, _^_, _<_, _≤_};
@@ -25,19 +26,6 @@ ghost use Rattle.units.specs.Memory.{levelAt};
 ghost use Rattle.units.specs.Units.{chromaUnit};
 ghost use Rattle.filter.specs.Filter.{areaOf};
 ghost use Rattle.filter.specs.Lines.{halvesAt, classAt, firstUnit, unitsAcross, lineIn, Counted};
-
-// What `walk` takes.
-pub struct UnitLine {
-    pub q: usize,
-    pub line_step: usize,
-    pub sample_step: usize,
-    pub m0: u32,
-    pub m1: u32,
-    pub m2: u32,
-    pub at: usize,
-    pub along: usize,
-    pub back: usize,
-}
 
 fn record_left(ss_hor: usize, rec: usize) -> usize
     requires { ⌜ («ss_hor» ≤ 1) × (rec ≤ 128) ⌝ }
@@ -166,6 +154,7 @@ fn column_line(masks: &[u16], c: Component, k: usize, rec: usize, a: usize) -> U
         m0: class_at(masks, luma, m, first, n, h, 0),
         m1: class_at(masks, luma, m, first, n, h, 1),
         m2: class_at(masks, luma, m, first, n, h, 2),
+        luma,
         at: level_of(c, false, x, y),
         along: 4 * c.level_stride,
         back: 4,
@@ -190,6 +179,7 @@ fn row_line(masks: &[u16], c: Component, k: usize, rec: usize, a: usize) -> Unit
         m0: class_at(masks, luma, m, 0, 2, h, 0),
         m1: class_at(masks, luma, m, 0, 2, h, 1),
         m2: class_at(masks, luma, m, 0, 2, h, 2),
+        luma,
         at: level_of(c, true, x, y),
         along: 4,
         back: 4 * c.level_stride,

@@ -1,6 +1,6 @@
 -- A plane keeps the rule over the whole frame where each call's look found it kept, and boundaries keep it with what is above them.
 use mathlib.Core.Path.{_≡_, refl}
-use mathlib.Core.Bool.{Bool, true, false, cond, not, and-eq-true-iff}
+use mathlib.Core.Bool.{Bool, true, false, cond, and-eq-true-iff}
 use mathlib.Core.List.{List, []}
 use mathlib.Core.Logic.{_⊎_, ⊎-elim, by-cases}
 use mathlib.Core.Option.{Option, some, none}
@@ -78,7 +78,7 @@ of-level true n x y g h = g
 of-level false n x y g h = h
 
 module _ (t : Tables) where
-  pub class-gives : (b : Bool) (cls lvl : ℕ) (l : List ℕ) → Gives (cond b luma chroma .writes cls) (changeAt t (lenOf (not b) cls) lvl l)
+  pub class-gives : (b : Bool) (cls lvl : ℕ) (l : List ℕ) → Gives (cond b luma chroma .writes cls) (changeAt t (lenOf b cls) lvl l)
   class-gives true zero lvl l = of-level (eqb lvl 0) _ _ _ (nothing _) (gives four _ l)
   class-gives true (suc zero) lvl l = of-level (eqb lvl 0) _ _ _ (nothing _) (gives eight _ l)
   class-gives true (suc (suc n)) lvl l = of-level (eqb lvl 0) _ _ _ (nothing _) (gives sixteen _ l)

@@ -1,6 +1,5 @@
 -- The pass of a call over a plane is told by what the call looks at: each piece of the row has the same class and level, so it does the same to a line.
 use mathlib.Core.Path.{_≡_, refl, ap, _∙_}
-use mathlib.Core.Bool.{not}
 use mathlib.Core.List.{List}
 use mathlib.Core.Option.{Option, some, none}
 use Prim.Native.Nat.{ℕ, _+_, _-_, _*_, _≤_, _<_}
@@ -71,7 +70,7 @@ module _ (c : Component) (proper : Proper (gridOf c)) (size : Size (c .sb4 .0)) 
             record {
               reads = planeOf c t .widths .reads cls;
               writes = planeOf c t .widths .writes cls;
-              rule = changeAt t (lenOf (not (eqb (c .plane) 0)) cls) (level-same p cls r z q);
+              rule = changeAt t (lenOf (eqb (c .plane) 0) cls) (level-same p cls r z q);
             }
 
     pub sweep-same : (x : List ℕ) → sweepOf (planeOf c t) d k x ≡ sweepOf (planeOf c t′) d k x

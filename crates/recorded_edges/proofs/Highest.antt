@@ -9,7 +9,7 @@ use native.Mathlib.Omega.{arith}
 use lib.Dec.{eqb}
 use borrow.Author.Tests.{eq-eqb, ne-eqb}
 use Rattle.edges.specs.Edges.{highest}
-use Rattle.walk.specs.Walk.{lumaLen, chromaLen}
+use Rattle.walk.specs.Walk.{lumaLen, chromaLen, lenOf}
 use Rattle.agree.specs.Promises.{widthOf}
 use Rattle.recorded_edges.specs.Held.{stands, widthIn, greater}
 
@@ -79,7 +79,7 @@ chroma-grows zero (suc b) h = omega arith
 chroma-grows (suc a) zero h = absurd (omega arith)
 chroma-grows (suc a) (suc b) h = omega arith
 
-width-grows : (luma : Bool) (a b : ℕ) → a ≤ b → cond luma (lumaLen a) (chromaLen a) ≤ cond luma (lumaLen b) (chromaLen b)
+width-grows : (luma : Bool) (a b : ℕ) → a ≤ b → lenOf luma a ≤ lenOf luma b
 width-grows true = luma-grows
 width-grows false = chroma-grows
 

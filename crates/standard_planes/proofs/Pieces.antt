@@ -1,7 +1,7 @@
 -- With the limit table of a sharpness a piece's rule is that of the standard's bounds, so the piece is the standard's.
 use Prim.Native.Nat.{ℕ, _*_, _≤_}
 use native.Mathlib.Omega.{arith}
-use mathlib.Core.Bool.{Bool, true, false, not, cond}
+use mathlib.Core.Bool.{Bool, true, false, cond}
 use mathlib.Core.List.{List}
 use mathlib.Core.Option.{Option, some, none}
 use mathlib.Core.Path.{_≡_, refl, ap, _∙_, subst⁻¹}
@@ -70,4 +70,4 @@ module _ (c : Call) (l : Limits) (m : Lent) (n : ℕ) (d : Pass) (p : Piece) (s 
         → Standard d (strideOf c n) (lenAt n cls) (bounds (c .depth) sharp level) p s (act (planeAt c l m n) d p s)
     piece-is ok =
         subst⁻¹ (λ (r : List ℕ). Standard d (strideOf c n) (lenAt n cls) (bounds (c .depth) sharp level) p s r) rule-is
-        (piece-standard d (strideOf c n) (width (not (eqb n 0)) cls) (bounds (c .depth) sharp level) p (length s) ok s refl)
+        (piece-standard d (strideOf c n) (width (eqb n 0) cls) (bounds (c .depth) sharp level) p (length s) ok s refl)

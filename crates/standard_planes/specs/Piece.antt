@@ -6,7 +6,6 @@
 --   lineIn d S p i s        line i of it, in the list s
 --   There d S n p size      n places a side of its four lines are in a list of that size
 --   Standard                each of its four lines is filtered by 7.14.6.1, and no other sample changes
-use mathlib.Core.Bool.{not}
 use mathlib.Core.List.{List}
 use mathlib.Core.Path.{_≡_}
 use Prim.Native.Nat.{ℕ, _+_, _-_, _*_, _≤_, _<_}
@@ -30,7 +29,7 @@ abbrev pub levelAt : Call → Limits → Lent → ℕ → Pass → Piece → ℕ
 levelAt c l m n = levelOf (componentOf c n) (tablesOf c l m)
 
 abbrev pub lenAt : ℕ → ℕ → ℕ
-lenAt n = lenOf (not (eqb n 0))
+lenAt n = lenOf (eqb n 0)
 
 abbrev pub at : Pass → ℕ → Piece → ℕ → ℕ → ℕ
 at d S p i k = ix d S (4 * p .1 + i) (4 * p .0 + k - 8)

@@ -15,7 +15,8 @@ use Rattle.standard.specs.Strength.{limit, blimit, thresh, bounds}
 use Rattle.plane.specs.Line.{Rule, changed, lineAt, pieceAt}
 use Rattle.plane.proofs.Lines.{put-keeps}
 use Rattle.line.specs.Rule.{rule}
-use Rattle.walk.specs.Walk.{thresholds, Units, setIn, lenAt, levelAt, indexAt, visit, visitAt, walked}
+use Rattle.walk.specs.declared.UnitLine.{UnitLine}
+use Rattle.walk.specs.Walk.{thresholds, setIn, lenAt, levelAt, indexAt, visit, visitAt, walked}
 use Rattle.walk.specs.Promises.{Promises}
 use Rattle.walk.proofs.WidthsThresholds.{by-fields}
 use Rattle.walk.proofs.Places.{visits-run, only, every, rises}
@@ -37,25 +38,25 @@ visit-keeps depth e i line-step sample-step len lvl q s = go (eqb lvl 0)
     go true = refl
     go false = piece-keeps line-step sample-step (rule len (thresholds depth e i lvl)) q s
 
-pub walked-keeps : (depth : ℕ) (e i : List ℕ) (u : Units) (s : List ℕ) → length (walked depth e i u s) ≡ length s
+pub walked-keeps : (depth : ℕ) (e i levels : List ℕ) (u : UnitLine) (s : List ℕ) → length (walked depth e i levels u s) ≡ length s
 unfolding walked visits
-walked-keeps depth e i u s =
-    upTo-part length (λ k t. cond (hasBit (setIn u) k) (visitAt depth e i u k t) t) (λ k n. n) (λ k t. go k t (hasBit (setIn u) k)) 32 s
+walked-keeps depth e i levels u s =
+    upTo-part length (λ k t. cond (hasBit (setIn u) k) (visitAt depth e i levels u k t) t) (λ k n. n) (λ k t. go k t (hasBit (setIn u) k)) 32 s
   where
-    go : (k : ℕ) (t : List ℕ) (b : Bool) → length (cond b (visitAt depth e i u k t) t) ≡ length t
-    go k t true = visit-keeps depth e i (u .line-step) (u .sample-step) (lenAt u k) (levelAt u k) (indexAt u k) t
+    go : (k : ℕ) (t : List ℕ) (b : Bool) → length (cond b (visitAt depth e i levels u k t) t) ≡ length t
+    go k t true = visit-keeps depth e i (u .«line_step») (u .«sample_step») (lenAt u k) (levelAt levels u k) (indexAt u k) t
     go k t false = refl
 
 pub promises : Promises
 unfolding walked thresholds bounds thresh
 promises =
     record {
-      visited = λ depth e i u s. visits-run (setIn u) (visitAt depth e i u) 32 s;
+      visited = λ depth e i levels u s. visits-run (setIn u) (visitAt depth e i levels u) 32 s;
       set = λ m n. record { only = only m 32 n; always = λ x. every m 32 n (x .0) (x .1) };
       rising = λ m. rises m 32;
       standard =
           λ depth s lvl h. by-fields _ _ (ap (λ (x : ℕ). x * 2 ^ (depth - 8)) (getD-tabulate (blimit s) 64 lvl (omega arith)))
           (ap (λ (x : ℕ). x * 2 ^ (depth - 8)) (getD-tabulate (limit s) 64 lvl (omega arith))) refl refl refl;
       keeps = walked-keeps;
-      range = λ depth e i u s d ok b. visits-below depth e i u s d ok b 32;
+      range = λ depth e i levels u s d ok b. visits-below depth e i levels u s d ok b 32;
     }

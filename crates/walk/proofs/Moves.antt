@@ -21,22 +21,23 @@ use Rattle.bits.proofs.Walks.{visits-none, visits-set, visits-clear, visits-sto
 use Rattle.line.specs.Width.{Width, reads}
 use Rattle.piece.specs.Samples.{PieceUnder}
 use Rattle.view.specs.Level.{levelUsed}
-use Rattle.walk.specs.Walk.{highest, lenOf, Units, setIn, lenAt, levelAt, indexAt, visit, visitAt, walked}
+use Rattle.walk.specs.declared.UnitLine.{UnitLine}
+use Rattle.walk.specs.Walk.{highest, lenOf, setIn, lenAt, levelAt, indexAt, visit, visitAt, walked}
 use Rattle.walk.specs.Ready.{Ready, Walkable, InRange}
 use Rattle.walk.proofs.WidthsThresholds.{width}
 use Rattle.walk.proofs.Ranges.{next-below}
 
-pub record Moved (depth : ℕ) (e i : List ℕ) (u : Units) (s₀ s : List ℕ) (xy p lvl : ℕ) : Type 0 where
+pub record Moved (depth : ℕ) (e i levels : List ℕ) (u : UnitLine) (s₀ s : List ℕ) (xy p lvl : ℕ) : Type 0 where
   pub k : ℕ
   pub few : k ≤ 32
   pub bit : xy ≡ 2 ^ k % 2 ^ 32
   pub index : p ≡ indexAt u k
   pub level : lvl ≡ u .at + k * u .along
   pub size : length s ≡ length s₀
-  pub done : s ≡ visits k (setIn u) (visitAt depth e i u) s₀
+  pub done : s ≡ visits k (setIn u) (visitAt depth e i levels u) s₀
 
-pub start : (depth : ℕ) (e i : List ℕ) (u : Units) (s : List ℕ) → Moved depth e i u s s 1 (u .q) (u .at)
-start depth e i u s =
+pub start : (depth : ℕ) (e i levels : List ℕ) (u : UnitLine) (s : List ℕ) → Moved depth e i levels u s s 1 (u .q) (u .at)
+start depth e i levels u s =
     record { k = 0; few = omega arith; bit = refl; index = omega arith; level = omega arith; size = refl; done = sym (visits-none _ _ _) }
 
 low : (a b : ℕ) → a ≤ 63 → b ≤ 63 → levelUsed a b < 64
@@ -54,7 +55,7 @@ some-set m k h l =
     let s = any-some 32 (hasBit w) (sym (word-some 32 w (omega (arith, shr-le m k))) ∙ ap not (ne-eqb w 0 (λ z. omega arith))) in
     (k + s .0, omega arith, ap (λ (x : ℕ). eqb (x % 2) 1) (sym (shr-shr m k (s .0))) ∙ s .2)
 
-module _ {depth : ℕ} {e i : List ℕ} {u : Units} {s₀ s : List ℕ} {xy p lvl : ℕ} (v : Moved depth e i u s₀ s xy p lvl) where
+module _ {depth : ℕ} {e i levels : List ℕ} {u : UnitLine} {s₀ s : List ℕ} {xy p lvl : ℕ} (v : Moved depth e i levels u s₀ s xy p lvl) where
   -- in a turn the place is below 32, and some set place is not behind it
   pub record Turn : Type 0 where
     pub few : v .k < 32
@@ -64,11 +65,11 @@ module _ {depth : ℕ} {e i : List ℕ} {u : Units} {s₀ s : List ℕ} {xy p lv
 
   -- and its sums fit
   pub record Room : Type 0 where
-    pub step : 4 * u .line-step < 2 ^ 64
-    pub index : p + 4 * u .line-step < 2 ^ 64
+    pub step : 4 * u .«line_step» < 2 ^ 64
+    pub index : p + 4 * u .«line_step» < 2 ^ 64
     pub level : lvl + u .along < 2 ^ 64
 
-  pub masks-fit : u .m₀ < 2 ^ 32 → u .m₁ < 2 ^ 32 → u .m₂ < 2 ^ 32 → setIn u < 2 ^ 32
+  pub masks-fit : u .m0 < 2 ^ 32 → u .m1 < 2 ^ 32 → u .m2 < 2 ^ 32 → setIn u < 2 ^ 32
   masks-fit a b c = or-lt 32 _ _ (or-lt 32 _ _ a b) c
 
   module _ (hv : setIn u < 2 ^ 32) (r : ℕ) (hr : r < 2 ^ 32) (er : (r + 1) % 2 ^ 32 ≡ xy) where
@@ -83,17 +84,17 @@ module _ {depth : ℕ} {e i : List ℕ} {u : Units} {s₀ s : List ℕ} {xy p lv
             (λ l. absurd (t (walk-test (setIn u) (v .k) xy r hv (v .few) (v .bit) hr er ∙ ap (λ (n : ℕ). n * 2 ^ v .k) (div-eq-of-lt l) ∙ zero-mul _)))
             (λ n. omega arith)
 
-    pub finished : bitAnd (setIn u) ((2 ^ 32 - 1) - r) ≡ 0 → s ≡ walked depth e i u s₀
+    pub finished : bitAnd (setIn u) ((2 ^ 32 - 1) - r) ≡ 0 → s ≡ walked depth e i levels u s₀
     unfolding walked
     finished t =
         v .done
-        ∙ sym (visits-stop (visitAt depth e i u) (setIn u) s₀ 32 (v .k) (v .few) (walk-off (setIn u) (v .k) xy r hv (v .few) (v .bit) hr er t))
+        ∙ sym (visits-stop (visitAt depth e i levels u) (setIn u) s₀ 32 (v .k) (v .few) (walk-off (setIn u) (v .k) xy r hv (v .few) (v .bit) hr er t))
 
   module _ (t : Turn) where
-    pub room : Walkable u (length s₀) → length s₀ < 2 ^ 63 → length (u .levels) < 2 ^ 63 → Room
+    pub room : Walkable levels u (length s₀) → length s₀ < 2 ^ 63 → length levels < 2 ^ 63 → Room
     room ok a b =
         let g = ok .ready (t .n) (t .is) in
-        let x = mul-le-mul-right (4 * u .line-step) (t .ahead) in
+        let x = mul-le-mul-right (4 * u .«line_step») (t .ahead) in
         let y = mul-le-mul-right (u .along) (t .ahead) in
         record {
           step = omega (arith, g .to);
@@ -101,28 +102,28 @@ module _ {depth : ℕ} {e i : List ℕ} {u : Units} {s₀ s : List ℕ} {xy p lv
           level = omega (arith, g .inside, v .level, ok .step);
         }
 
-    pub len-is : (c wd : ℕ) → ((n : ℕ) → xy ≡ 2 ^ n → c ≡ highest (u .m₁) (u .m₂) n) → wd ≡ lenOf (u .uv) c → wd ≡ lenAt u (v .k)
-    len-is c wd h ew = ew ∙ ap (lenOf (u .uv)) (h (v .k) (v .bit ∙ mod-eq-of-lt (pow-lt (t .few))))
+    pub len-is : (c wd : ℕ) → ((n : ℕ) → xy ≡ 2 ^ n → c ≡ highest (u .m1) (u .m2) n) → wd ≡ lenOf (u .luma) c → wd ≡ lenAt u (v .k)
+    len-is c wd h ew = ew ∙ ap (lenOf (u .luma)) (h (v .k) (v .bit ∙ mod-eq-of-lt (pow-lt (t .few))))
 
-    pub level-is : (l : ℕ) → l ≡ levelUsed (getD (u .levels) lvl 0) (getD (u .levels) (lvl - u .back) 0) → l ≡ levelAt u (v .k)
-    level-is l el = el ∙ ap (λ (a : ℕ). levelUsed (getD (u .levels) a 0) (getD (u .levels) (a - u .back) 0)) (v .level)
+    pub level-is : (l : ℕ) → l ≡ levelUsed (getD levels lvl 0) (getD levels (lvl - u .back) 0) → l ≡ levelAt levels u (v .k)
+    level-is l el = el ∙ ap (λ (a : ℕ). levelUsed (getD levels a 0) (getD levels (a - u .back) 0)) (v .level)
 
     -- one place on
-    next : (s′ : List ℕ) → length s′ ≡ length s₀ → s′ ≡ visits (v .k + 1) (setIn u) (visitAt depth e i u) s₀
-        → Moved depth e i u s₀ s′ ((xy * 2 ^ 1) % 2 ^ 32) (p + 4 * u .line-step) (lvl + u .along)
+    next : (s′ : List ℕ) → length s′ ≡ length s₀ → s′ ≡ visits (v .k + 1) (setIn u) (visitAt depth e i levels u) s₀
+        → Moved depth e i levels u s₀ s′ ((xy * 2 ^ 1) % 2 ^ 32) (p + 4 * u .«line_step») (lvl + u .along)
     next s′ n es =
         record {
           k = v .k + 1;
           few = omega (arith, t .few);
           bit = walk-next (v .k) xy (v .bit);
-          index = omega (arith, v .index, add-mul (v .k) 1 (4 * u .line-step));
+          index = omega (arith, v .index, add-mul (v .k) 1 (4 * u .«line_step»));
           level = omega (arith, v .level, add-mul (v .k) 1 (u .along));
           size = n;
           done = es;
         }
 
     pub on-clear : (s′ : List ℕ) → bitAnd (setIn u) xy ≡ 0 → s′ ≡ s
-        → Moved depth e i u s₀ s′ ((xy * 2 ^ 1) % 2 ^ 32) (p + 4 * u .line-step) (lvl + u .along)
+        → Moved depth e i levels u s₀ s′ ((xy * 2 ^ 1) % 2 ^ 32) (p + 4 * u .«line_step») (lvl + u .along)
     on-clear s′ z es =
         next s′ (ap length es ∙ v .size)
         (es ∙ v .done ∙ sym (visits-clear _ _ _ (v .k) (word-clear (v .k) xy (t .few) (v .bit) (setIn u) z)))
@@ -131,23 +132,23 @@ module _ {depth : ℕ} {e i : List ℕ} {u : Units} {s₀ s : List ℕ} {xy p lv
       pub is-set : hasBit (setIn u) (v .k) ≡ true
       is-set = word-set (v .k) xy (t .few) (v .bit) (setIn u) z
 
-      pub level-in : Walkable u (length s₀) → (lvl < length (u .levels)) × (u .back ≤ lvl)
+      pub level-in : Walkable levels u (length s₀) → (lvl < length levels) × (u .back ≤ lvl)
       level-in ok = let g = ok .ready (v .k) is-set in rw (v .level) (g .inside, g .behind)
 
-      module _ (wd l : ℕ) (ew : wd ≡ lenAt u (v .k)) (el : l ≡ levelAt u (v .k)) where
-        pub asked : Walkable u (length s₀)
-            → Width wd × (l < 64) × (reads wd * u .sample-step ≤ p) × (p + 3 * u .line-step + (reads wd - 1) * u .sample-step < length s)
+      module _ (wd l : ℕ) (ew : wd ≡ lenAt u (v .k)) (el : l ≡ levelAt levels u (v .k)) where
+        pub asked : Walkable levels u (length s₀)
+            → Width wd × (l < 64) × (reads wd * u .«sample_step» ≤ p) × (p + 3 * u .«line_step» + (reads wd - 1) * u .«sample_step» < length s)
         asked ok =
             let g = ok .ready (v .k) is-set in
-            rw (ew, el, v .index, v .size) (width (u .uv) (highest (u .m₁) (u .m₂) (v .k)), low _ _ (g .level) (g .before), g .from, g .to)
+            rw (ew, el, v .index, v .size) (width (u .luma) (highest (u .m1) (u .m2) (v .k)), low _ _ (g .level) (g .before), g .from, g .to)
 
-        pub asked-16 : 8 ≤ depth → depth ≤ 12 → Walkable u (length s₀) → InRange (2 ^ depth) u s₀
-            → Width wd × (l < 64) × (reads wd * u .sample-step ≤ p) × (p + 3 * u .line-step + (reads wd - 1) * u .sample-step < length s) × (8 ≤ depth) × (depth ≤ 12)
-            × PieceUnder (2 ^ depth) (reads wd) (u .line-step) (u .sample-step) p s
+        pub asked-16 : 8 ≤ depth → depth ≤ 12 → Walkable levels u (length s₀) → InRange (2 ^ depth) u s₀
+            → Width wd × (l < 64) × (reads wd * u .«sample_step» ≤ p) × (p + 3 * u .«line_step» + (reads wd - 1) * u .«sample_step» < length s) × (8 ≤ depth) × (depth ≤ 12)
+            × PieceUnder (2 ^ depth) (reads wd) (u .«line_step») (u .«sample_step») p s
         asked-16 d h ok b =
             let g = asked ok in
-            (g .0, g .1, g .2, g .3, d, h, rw (ew, v .index, v .done) (next-below depth e i u s₀ d ok b (v .k) is-set))
+            (g .0, g .1, g .2, g .3, d, h, rw (ew, v .index, v .done) (next-below depth e i levels u s₀ d ok b (v .k) is-set))
 
-        pub on-set : (s′ : List ℕ) → length s′ ≡ length s → s′ ≡ visit depth e i (u .line-step) (u .sample-step) wd l p s
-            → Moved depth e i u s₀ s′ ((xy * 2 ^ 1) % 2 ^ 32) (p + 4 * u .line-step) (lvl + u .along)
+        pub on-set : (s′ : List ℕ) → length s′ ≡ length s → s′ ≡ visit depth e i (u .«line_step») (u .«sample_step») wd l p s
+            → Moved depth e i levels u s₀ s′ ((xy * 2 ^ 1) % 2 ^ 32) (p + 4 * u .«line_step») (lvl + u .along)
         on-set s′ n es = next s′ (n ∙ v .size) (es ∙ rw (ew, el, v .index, v .done) (sym (visits-set _ _ _ (v .k) is-set)))

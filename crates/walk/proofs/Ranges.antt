@@ -12,7 +12,8 @@ use Rattle.line.specs.Rule.{rule}
 use Rattle.line.specs.Width.{Width, reads}
 use Rattle.piece.specs.Samples.{index, PieceUnder}
 use Rattle.piece.proofs.Ranges.{piece-below}
-use Rattle.walk.specs.Walk.{thresholds, highest, Units, setIn, lenAt, levelAt, indexAt, visit, visitAt}
+use Rattle.walk.specs.declared.UnitLine.{UnitLine}
+use Rattle.walk.specs.Walk.{thresholds, highest, setIn, lenAt, levelAt, indexAt, visit, visitAt}
 use Rattle.walk.specs.Ready.{Walkable, InRange}
 use Rattle.walk.proofs.WidthsThresholds.{width}
 use Rattle.walk.proofs.Visits.{top, half-pos}
@@ -35,20 +36,20 @@ carried : (m n line-step sample-step q : ℕ) (s t : List ℕ) → ((j : ℕ) �
 carried m n line-step sample-step q s t f b =
     record { line = λ i h. record { under = λ k w. f (index (q + i * line-step) sample-step k) (b .line i h .under k w) } }
 
-module _ (depth : ℕ) (e i : List ℕ) (u : Units) (s : List ℕ) (d : 8 ≤ depth) (ok : Walkable u (length s)) (b : InRange (2 ^ depth) u s) where
+module _ (depth : ℕ) (e i levels : List ℕ) (u : UnitLine) (s : List ℕ) (d : 8 ≤ depth) (ok : Walkable levels u (length s)) (b : InRange (2 ^ depth) u s) where
   one-more : (k : ℕ) (t : List ℕ) → ((j : ℕ) → getD s j 0 < 2 ^ depth → getD t j 0 < 2 ^ depth) → (z : Bool) → hasBit (setIn u) k ≡ z
-      → (j : ℕ) → getD s j 0 < 2 ^ depth → getD (cond z (visitAt depth e i u k t) t) j 0 < 2 ^ depth
+      → (j : ℕ) → getD s j 0 < 2 ^ depth → getD (cond z (visitAt depth e i levels u k t) t) j 0 < 2 ^ depth
   one-more k t f true z j h =
-      visit-below depth e i (u .line-step) (u .sample-step) (levelAt u k) (indexAt u k) t d (width (u .uv) (highest (u .m₁) (u .m₂) k)) (ok .ready k z .from)
-      (carried (2 ^ depth) (reads (lenAt u k)) (u .line-step) (u .sample-step) (indexAt u k) s t f (b .piece k z)) j (f j h)
+      visit-below depth e i (u .«line_step») (u .«sample_step») (levelAt levels u k) (indexAt u k) t d (width (u .luma) (highest (u .m1) (u .m2) k)) (ok .ready k z .from)
+      (carried (2 ^ depth) (reads (lenAt u k)) (u .«line_step») (u .«sample_step») (indexAt u k) s t f (b .piece k z)) j (f j h)
   one-more k t f false z j h = f j h
 
-  pub visits-below : (k j : ℕ) → getD s j 0 < 2 ^ depth → getD (visits k (setIn u) (visitAt depth e i u) s) j 0 < 2 ^ depth
+  pub visits-below : (k j : ℕ) → getD s j 0 < 2 ^ depth → getD (visits k (setIn u) (visitAt depth e i levels u) s) j 0 < 2 ^ depth
   unfolding visits
   visits-below zero j h = h
-  visits-below (suc k) j h = one-more k (visits k (setIn u) (visitAt depth e i u) s) (visits-below k) (hasBit (setIn u) k) refl j h
+  visits-below (suc k) j h = one-more k (visits k (setIn u) (visitAt depth e i levels u) s) (visits-below k) (hasBit (setIn u) k) refl j h
 
   -- the piece that comes after k places
   pub next-below : (k : ℕ) → hasBit (setIn u) k ≡ true
-      → PieceUnder (2 ^ depth) (reads (lenAt u k)) (u .line-step) (u .sample-step) (indexAt u k) (visits k (setIn u) (visitAt depth e i u) s)
-  next-below k z = carried (2 ^ depth) (reads (lenAt u k)) (u .line-step) (u .sample-step) (indexAt u k) s _ (visits-below k) (b .piece k z)
+      → PieceUnder (2 ^ depth) (reads (lenAt u k)) (u .«line_step») (u .«sample_step») (indexAt u k) (visits k (setIn u) (visitAt depth e i levels u) s)
+  next-below k z = carried (2 ^ depth) (reads (lenAt u k)) (u .«line_step») (u .«sample_step») (indexAt u k) s _ (visits-below k) (b .piece k z)

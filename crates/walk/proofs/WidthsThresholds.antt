@@ -17,29 +17,29 @@ module _ (m xy n : ℕ) (h : xy ≡ 2 ^ n) where
   pub lacks : bitAnd m xy ≡ 0 → hasBit m n ≡ false
   lacks t = test-clear m n (rw h at t)
 
-pub width : (uv : Bool) (c : ℕ) → Width (lenOf uv c)
+pub width : (luma : Bool) (c : ℕ) → Width (lenOf luma c)
 width true zero = four
-width true (suc c) = six
+width true (suc zero) = eight
+width true (suc (suc c)) = sixteen
 width false zero = four
-width false (suc zero) = eight
-width false (suc (suc c)) = sixteen
+width false (suc c) = six
 
-module _ (uv : Bool) (c : ℕ) where
-  pub len-4 : c ≡ 0 → 4 ≡ lenOf uv c
-  len-4 e = rw e (go uv)
+module _ (luma : Bool) (c : ℕ) where
+  pub len-4 : c ≡ 0 → 4 ≡ lenOf luma c
+  len-4 e = rw e (go luma)
     where
       go : (b : Bool) → 4 ≡ lenOf b 0
       go true = refl
       go false = refl
 
-  pub len-6 : c ≢ 0 → uv ≡ true → 6 ≡ lenOf uv c
+  pub len-6 : c ≢ 0 → luma ≡ false → 6 ≡ lenOf luma c
   len-6 n e = rw e (go c n)
     where
       go : (c : ℕ) → c ≢ 0 → 6 ≡ chromaLen c
       go zero n = absurd (n refl)
       go (suc c) n = refl
 
-  pub len-16 : c ≢ 0 → c ≢ 1 → uv ≡ false → 16 ≡ lenOf uv c
+  pub len-16 : c ≢ 0 → c ≢ 1 → luma ≡ true → 16 ≡ lenOf luma c
   len-16 n o e = rw e (go c n o)
     where
       go : (c : ℕ) → c ≢ 0 → c ≢ 1 → 16 ≡ lumaLen c

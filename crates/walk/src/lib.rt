@@ -6,10 +6,25 @@ ghost use Prim.Native.Nat.{ℕ, _+_, _-_, _*_, _^_, _<_, _≤_};
 ghost use lib.ListN.{length};
 ghost use Rattle.line.specs.Width.{Width, reads};
 ghost use Rattle.piece.specs.Samples.{PieceUnder};
-ghost use Rattle.walk.specs.Walk.{thresholds, highest, lenOf, units, visit, walked};
+ghost use Rattle.walk.specs.Walk.{thresholds, highest, lenOf, visit, walked};
 ghost use Rattle.walk.specs.Ready.{Walkable, InRange};
 ghost use Rattle.walk.specs.Promises.{Promises};
 use standard::Bounds;
+
+// At place n, q0 of the first of the four lines is at index q + n * (4 * line_step), the lines line_step apart and a line's samples sample_step; the unit's
+// level byte is at at + n * along, and that of the unit before the edge back earlier. The masks are those of classes 0, 1, 2.
+pub struct UnitLine {
+    pub q: usize,
+    pub line_step: usize,
+    pub sample_step: usize,
+    pub m0: u32,
+    pub m1: u32,
+    pub m2: u32,
+    pub luma: bool,
+    pub at: usize,
+    pub along: usize,
+    pub back: usize,
+}
 
 // Of the bit xy at place n.
 fn class_of(m1: u32, m2: u32, xy: u32) -> u32
@@ -24,13 +39,13 @@ fn class_of(m1: u32, m2: u32, xy: u32) -> u32
     0
 }
 
-fn width_of(uv: bool, class: u32) -> u32
-    ensures { λ r. ⌜ r ≡ lenOf uv class ⌝ }
+fn width_of(luma: bool, class: u32) -> u32
+    ensures { λ r. ⌜ r ≡ lenOf luma class ⌝ }
 {
     if class == 0 {
         return 4;
     }
-    if uv {
+    if !luma {
         return 6;
     }
     if class == 1 { 8 } else { 16 }
@@ -83,46 +98,31 @@ fn visit_8(
     );
 }
 
-pub fn walk_8(
-    dst: &mut [u8],
-    q: usize,
-    line_step: usize,
-    sample_step: usize,
-    m0: u32,
-    m1: u32,
-    m2: u32,
-    uv: bool,
-    levels: &[u8],
-    at: usize,
-    along: usize,
-    back: usize,
-    e: &[u8; 64],
-    i: &[u8; 64],
-)
-    requires { ⌜ Walkable (units q «line_step» «sample_step» m0 m1 m2 uv (now levels) at along back) (length (now dst)) ⌝ }
-    ensures { λ _. ⌜ now (dst .exit) ≡ walked 8 (now (e .entry)) (now (i .entry)) (units q «line_step» «sample_step» m0 m1 m2 uv (now (levels .entry)) at along back) (now (dst .entry)) ⌝ }
+pub fn walk_8(dst: &mut [u8], l: UnitLine, levels: &[u8], e: &[u8; 64], i: &[u8; 64])
+    requires { ⌜ Walkable (now levels) l (length (now dst)) ⌝ }
+    ensures { λ _. ⌜ now (dst .exit) ≡ walked 8 (now (e .entry)) (now (i .entry)) (now (levels .entry)) l (now (dst .entry)) ⌝ }
 {
-    let vm = m0 | m1 | m2;
+    let vm = l.m0 | l.m1 | l.m2;
     let mut xy = 1u32;
-    let mut p = q;
-    let mut lvl = at;
+    let mut p = l.q;
+    let mut lvl = l.at;
     while vm & !std::num::wrapping_sub_u32(xy, 1) != 0 {
         if vm & xy != 0 {
-            let wd = width_of(uv, class_of(m1, m2, xy));
+            let wd = width_of(l.luma, class_of(l.m1, l.m2, xy));
             visit_8(
                 dst,
                 p,
-                line_step,
-                sample_step,
+                l.line_step,
+                l.sample_step,
                 wd,
-                view::filter_level(levels, lvl, back),
+                view::filter_level(levels, lvl, l.back),
                 e,
                 i,
             );
         }
         xy <<= 1; // 0 after bit 31, and the walk stops
-        p += 4 * line_step;
-        lvl += along;
+        p += 4 * l.line_step;
+        lvl += l.along;
     }
 }
 
@@ -154,49 +154,33 @@ fn visit_16(
     );
 }
 
-pub fn walk_16(
-    dst: &mut [u16],
-    q: usize,
-    line_step: usize,
-    sample_step: usize,
-    m0: u32,
-    m1: u32,
-    m2: u32,
-    uv: bool,
-    levels: &[u8],
-    at: usize,
-    along: usize,
-    back: usize,
-    e: &[u8; 64],
-    i: &[u8; 64],
-    depth: u32,
-)
-    requires { ⌜ (8 ≤ depth) × (depth ≤ 12) × Walkable (units q «line_step» «sample_step» m0 m1 m2 uv (now levels) at along back) (length (now dst))
-        × InRange (2 ^ depth) (units q «line_step» «sample_step» m0 m1 m2 uv (now levels) at along back) (now dst) ⌝ }
-    ensures { λ _. ⌜ now (dst .exit) ≡ walked depth (now (e .entry)) (now (i .entry)) (units q «line_step» «sample_step» m0 m1 m2 uv (now (levels .entry)) at along back) (now (dst .entry)) ⌝ }
+pub fn walk_16(dst: &mut [u16], l: UnitLine, levels: &[u8], e: &[u8; 64], i: &[u8; 64], depth: u32)
+    requires { ⌜ (8 ≤ depth) × (depth ≤ 12) × Walkable (now levels) l (length (now dst))
+        × InRange (2 ^ depth) l (now dst) ⌝ }
+    ensures { λ _. ⌜ now (dst .exit) ≡ walked depth (now (e .entry)) (now (i .entry)) (now (levels .entry)) l (now (dst .entry)) ⌝ }
 {
-    let vm = m0 | m1 | m2;
+    let vm = l.m0 | l.m1 | l.m2;
     let mut xy = 1u32;
-    let mut p = q;
-    let mut lvl = at;
+    let mut p = l.q;
+    let mut lvl = l.at;
     while vm & !std::num::wrapping_sub_u32(xy, 1) != 0 {
         if vm & xy != 0 {
-            let wd = width_of(uv, class_of(m1, m2, xy));
+            let wd = width_of(l.luma, class_of(l.m1, l.m2, xy));
             visit_16(
                 dst,
                 p,
-                line_step,
-                sample_step,
+                l.line_step,
+                l.sample_step,
                 wd,
-                view::filter_level(levels, lvl, back),
+                view::filter_level(levels, lvl, l.back),
                 e,
                 i,
                 depth,
             );
         }
         xy <<= 1;
-        p += 4 * line_step;
-        lvl += along;
+        p += 4 * l.line_step;
+        lvl += l.along;
     }
 }
 
