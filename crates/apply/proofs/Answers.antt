@@ -48,11 +48,11 @@ module _ (P : Plane) where
 
 module _ (c : Call) (t : Tables) where
   abbrev P : ℕ → Plane
-  P n = planeOf (componentOf c n) t
+  P plane = planeOf (componentOf c plane) t
 
-  one : (b : Bool) (n : ℕ) (s : List ℕ) → sweepOf (P n) (passOf b) (c .row) s ≡ cond b (rowsOf (P n) (c .row) s) (colsOf (P n) (c .row) s)
-  one true n s = promises .rows-are (P n) (c .row) s
-  one false n s = promises .columns-are (P n) (c .row) s
+  one : (b : Bool) (plane : ℕ) (s : List ℕ) → sweepOf (P plane) (passOf b) (c .row) s ≡ cond b (rowsOf (P plane) (c .row) s) (colsOf (P plane) (c .row) s)
+  one true plane s = promises .rows-are (P plane) (c .row) s
+  one false plane s = promises .columns-are (P plane) (c .row) s
 
   whole : (b : Bool) (x y z : List ℕ)
       → three (sweepOf (P 0) (passOf b) (c .row) x) (cond (chromaOn c) (sweepOf (P 1) (passOf b) (c .row) y) y) (cond (chromaOn c) (sweepOf (P 2) (passOf b) (c .row) z) z)
@@ -75,3 +75,7 @@ module _ (c : Call) (l : Limits) (m : Lent) where
       → z ≡ sweptIf c (tablesOf c l m) 2 (m .v) → FilterAnswer c l m 0 (three x y z)
   unfolding swept
   work x y z e f g h = record { code = sym e; planes = (λ q. three (f q) (g q) (h q)) ∙ whole c (tablesOf c l m) (c .rowwise) (m .luma) (m .u) (m .v) }
+
+-- of a call that is the same
+pub of-call : {c c′ : Call} {l : Limits} {m : Lent} {r : ℕ} {after : Three (List ℕ)} → c ≡ c′ → FilterAnswer c l m r after → FilterAnswer c′ l m r after
+of-call e a = rw e at a

@@ -1,13 +1,15 @@
 -- The calls that filter one pass of a superblock row: the planes that they define, and their contract.
---   componentOf c n           plane n of the frame of a call
+--   componentOf c plane       a plane of the frame of a call
 --   shown on P                the plane, with no edges unless it is on
---   Limits                    the limit table's e and i
---   planeAt c e m n           plane n, from what is lent
---   planesOf c e m            the three planes, chroma without edges where it is not filtered
---   threeOf m                 their samples
+--   Limits, limits            the limit table's e and i
+--   tablesOf c l m            what a plane is filtered by
+--   planeAt c l m plane       a plane, from what is lent
+--   planesOf c l m            the three planes, chroma without edges where it is not filtered
+--   threeOf m, three          their samples
 --   passCall c                the pass of the call, over the three planes
 --   FilterAnswer              number and samples after a call
 --   callOf                    the call of these arguments
+--   Filters                   the contract: the answer to a call that is lent these lists, its number, and the samples after it
 --   swept, sweptIf            what is done to a plane, and to one of chroma
 --   Ready, Ready16            what that asks, and of samples of 16 bits
 use mathlib.Core.Bool.{Bool, cond}
@@ -24,19 +26,19 @@ use Rattle.filter.specs.declared.Component.{Component}
 use Rattle.filter.specs.Filter.{Tables, planeOf, sweepOf}
 use Rattle.filter.specs.Ready.{Stored, Fit, Under}
 use Rattle.checks.specs.declared.Call.{Call}
-use Rattle.checks.specs.Call.{Lent, w4, h4, sb4, ss-hor, ss-ver, strideOf, chromaOn, Shaped}
+use Rattle.checks.specs.Call.{Lent, lent, w4, h4, sb4, ss-hor, ss-ver, strideOf, chromaOn, Shaped}
 use Rattle.checks.specs.Tests.{number}
 
 abbrev pub componentOf : Call → ℕ → Component
-componentOf c n =
+componentOf c plane =
     record {
-      plane = n;
-      «ss_hor» = ss-hor c n;
-      «ss_ver» = ss-ver c n;
+      plane = plane;
+      «ss_hor» = ss-hor c plane;
+      «ss_ver» = ss-ver c plane;
       w4 = record { 0 = w4 c };
       h4 = record { 0 = h4 c };
       sb4 = record { 0 = sb4 c };
-      stride = strideOf c n;
+      stride = strideOf c plane;
       «level_stride» = c .«level_stride»;
     }
 
@@ -62,7 +64,7 @@ abbrev pub tablesOf : Call → Limits → Lent → Tables
 tablesOf c l m = record { depth = c .depth; levels = m .levels; masks = m .masks; e = l .e; i = l .i }
 
 abbrev pub planeAt : Call → Limits → Lent → ℕ → Plane
-planeAt c l m n = planeOf (componentOf c n) (tablesOf c l m)
+planeAt c l m plane = planeOf (componentOf c plane) (tablesOf c l m)
 
 abbrev pub planesOf : Call → Limits → Lent → Three Plane
 planesOf c l m =
@@ -101,20 +103,23 @@ callOf rowwise depth luma-stride chroma-stride level-stride width height layout 
       «level_stride» = level-stride;
     }
 
+abbrev pub Filters : Call → List ℕ → List ℕ → List ℕ → List ℕ → List ℕ → List ℕ → List ℕ → ℕ → List ℕ → List ℕ → List ℕ → Type 0
+Filters c luma u v levels masks e i r luma′ u′ v′ = FilterAnswer c (limits e i) (lent luma u v levels masks) r (three luma′ u′ v′)
+
 -- ---- one plane
 
 unfoldable pub swept : Call → Tables → ℕ → List ℕ → List ℕ
-swept c t n = sweepOf (planeOf (componentOf c n) t) (passOf (c .rowwise)) (c .row)
+swept c t plane = sweepOf (planeOf (componentOf c plane) t) (passOf (c .rowwise)) (c .row)
 
 abbrev pub sweptIf : Call → Tables → ℕ → List ℕ → List ℕ
-sweptIf c t n s = cond (chromaOn c) (swept c t n s) s
+sweptIf c t plane s = cond (chromaOn c) (swept c t plane s) s
 
-pub record Ready (c : Call) (t : Tables) (n : ℕ) (s : List ℕ) : Type 0 where
+pub record Ready (c : Call) (t : Tables) (plane : ℕ) (s : List ℕ) : Type 0 where
   pub shaped : Shaped c
-  pub stored : Stored (componentOf c n) t (length s)
-  pub fit : Fit (componentOf c n) t (passOf (c .rowwise)) (c .row)
+  pub stored : Stored (componentOf c plane) t (length s)
+  pub fit : Fit (componentOf c plane) t (passOf (c .rowwise)) (c .row)
 
-pub record Ready16 (c : Call) (t : Tables) (n : ℕ) (s : List ℕ) : Type 0 where
-  pub ready : Ready c t n s
+pub record Ready16 (c : Call) (t : Tables) (plane : ℕ) (s : List ℕ) : Type 0 where
+  pub ready : Ready c t plane s
   pub deep : (8 ≤ t .depth) × (t .depth ≤ 12)
-  pub under : Under (2 ^ t .depth) (componentOf c n) (passOf (c .rowwise)) (c .row) s
+  pub under : Under (2 ^ t .depth) (componentOf c plane) (passOf (c .rowwise)) (c .row) s

@@ -1,34 +1,66 @@
 // Columns and rows of one superblock row: `rav1d_loopfilter_sbrow_cols`, but for the tile correction, and `rav1d_loopfilter_sbrow_rows`.
 use checks::Call;
 use checks::faults::chroma_on;
-use checks::faults::hor;
 use checks::faults::stride_of;
-use checks::faults::ver;
 use checks::number_8;
 use checks::number_16;
 use filter::Component;
 use units::Sample;
 use units::frame::superblock_units;
+use units::layout::plane_ss_hor;
+use units::layout::plane_ss_ver;
 use units::luma_units;
 ghost use mathlib.Core.Path.{_≡_};
 ghost use mathlib.Core.Bool.{true, false};
 ghost use Rattle.filter.specs.Filter.{tables};
-ghost use Rattle.checks.specs.Call.{lent, chromaOn, Shaped};
+ghost use Rattle.checks.specs.Call.{chromaOn, Shaped};
 ghost use Rattle.apply.specs.Promises.{Promises};
-ghost use Rattle.apply.specs.Apply.{componentOf, limits, three, callOf, Ready, Ready16, swept, sweptIf, FilterAnswer};
+ghost use Rattle.apply.specs.Apply.{componentOf, callOf, Filters, Ready, Ready16, swept, sweptIf};
 
-fn component(c: Call, n: usize) -> Component
+fn call(
+    rowwise: bool,
+    depth: u32,
+    luma_stride: usize,
+    chroma_stride: usize,
+    level_stride: usize,
+    width: u32,
+    height: u32,
+    layout: u32,
+    superblock: u32,
+    level_u: u32,
+    level_v: u32,
+    row: u32,
+) -> Call
+    ensures { λ r. ⌜ r ≡ callOf rowwise depth «luma_stride» «chroma_stride» «level_stride» width height layout superblock «level_u» «level_v» row ⌝ }
+{
+    Call {
+        width: Sample(width as usize),
+        height: Sample(height as usize),
+        layout: layout as usize,
+        superblock: superblock as usize,
+        depth,
+        level_u: level_u as usize,
+        level_v: level_v as usize,
+        row: row as usize,
+        rowwise,
+        luma_stride,
+        chroma_stride,
+        level_stride,
+    }
+}
+
+fn component(c: Call, plane: usize) -> Component
     requires { ⌜ Shaped c ⌝ }
-    ensures { λ r. ⌜ r ≡ componentOf c n ⌝ }
+    ensures { λ r. ⌜ r ≡ componentOf c plane ⌝ }
 {
     Component {
-        plane: n,
-        ss_hor: hor(c, n),
-        ss_ver: ver(c, n),
+        plane,
+        ss_hor: plane_ss_hor(plane == 0, c.layout),
+        ss_ver: plane_ss_ver(plane == 0, c.layout),
         w4: luma_units(c.width),
         h4: luma_units(c.height),
         sb4: superblock_units(c.superblock),
-        stride: stride_of(c, n),
+        stride: stride_of(c, plane),
         level_stride: c.level_stride,
     }
 }
@@ -36,16 +68,25 @@ fn component(c: Call, n: usize) -> Component
 fn plane_8(
     s: &mut [u8],
     c: Call,
-    n: usize,
+    plane: usize,
     levels: &[u8],
     masks: &[u16],
     e: &[u8; 64],
     i: &[u8; 64],
 )
-    requires { ⌜ (c .depth ≡ 8) × Ready c (tables (c .depth) (now levels) (now masks) (now e) (now i)) n (now s) ⌝ }
-    ensures { λ _. ⌜ now (s .exit) ≡ swept c (tables (c .depth) (now (levels .entry)) (now (masks .entry)) (now (e .entry)) (now (i .entry))) n (now (s .entry)) ⌝ }
+    requires { ⌜ (c .depth ≡ 8) × Ready c (tables (c .depth) (now levels) (now masks) (now e) (now i)) plane (now s) ⌝ }
+    ensures { λ _. ⌜ now (s .exit) ≡ swept c (tables (c .depth) (now (levels .entry)) (now (masks .entry)) (now (e .entry)) (now (i .entry))) plane (now (s .entry)) ⌝ }
 {
-    filter::plane_8(s, component(c, n), c.rowwise, c.row, levels, masks, e, i);
+    filter::plane_8(
+        s,
+        component(c, plane),
+        c.rowwise,
+        c.row,
+        levels,
+        masks,
+        e,
+        i,
+    );
 }
 
 fn chroma_8(
@@ -80,9 +121,8 @@ fn filter_8(
     i: &[u8; 64],
 ) -> u32
     requires { ⌜ c .depth ≡ 8 ⌝ }
-    ensures { λ r. ⌜ FilterAnswer c (limits (now (e .entry)) (now (i .entry)))
-        (lent (now (luma .entry)) (now (u .entry)) (now (v .entry)) (now (levels .entry)) (now (masks .entry))) r
-        (three (now (luma .exit)) (now (u .exit)) (now (v .exit))) ⌝ }
+    ensures { λ r. ⌜ Filters c (now (luma .entry)) (now (u .entry)) (now (v .entry)) (now (levels .entry)) (now (masks .entry)) (now (e .entry)) (now (i .entry)) r
+        (now (luma .exit)) (now (u .exit)) (now (v .exit)) ⌝ }
 {
     let n = number_8(c, luma, u, v, levels, masks);
     if n != 0 {
@@ -112,25 +152,24 @@ pub fn columns_8(
     level_v: u32,
     row: u32,
 ) -> u32
-    ensures { λ r. ⌜ FilterAnswer (callOf false 8 «luma_stride» «chroma_stride» «level_stride» width height layout superblock «level_u» «level_v» row)
-        (limits (now (e .entry)) (now (i .entry)))
-        (lent (now (luma .entry)) (now (u .entry)) (now (v .entry)) (now (levels .entry)) (now (masks .entry))) r
-        (three (now (luma .exit)) (now (u .exit)) (now (v .exit))) ⌝ }
+    ensures { λ r. ⌜ Filters (callOf false 8 «luma_stride» «chroma_stride» «level_stride» width height layout superblock «level_u» «level_v» row)
+        (now (luma .entry)) (now (u .entry)) (now (v .entry)) (now (levels .entry)) (now (masks .entry)) (now (e .entry)) (now (i .entry)) r
+        (now (luma .exit)) (now (u .exit)) (now (v .exit)) ⌝ }
 {
-    let c = Call {
-        width: Sample(width as usize),
-        height: Sample(height as usize),
-        layout: layout as usize,
-        superblock: superblock as usize,
-        depth: 8,
-        level_u: level_u as usize,
-        level_v: level_v as usize,
-        row: row as usize,
-        rowwise: false,
+    let c = call(
+        false,
+        8,
         luma_stride,
         chroma_stride,
         level_stride,
-    };
+        width,
+        height,
+        layout,
+        superblock,
+        level_u,
+        level_v,
+        row,
+    );
     filter_8(luma, u, v, c, levels, masks, e, i)
 }
 
@@ -153,43 +192,42 @@ pub fn rows_8(
     level_v: u32,
     row: u32,
 ) -> u32
-    ensures { λ r. ⌜ FilterAnswer (callOf true 8 «luma_stride» «chroma_stride» «level_stride» width height layout superblock «level_u» «level_v» row)
-        (limits (now (e .entry)) (now (i .entry)))
-        (lent (now (luma .entry)) (now (u .entry)) (now (v .entry)) (now (levels .entry)) (now (masks .entry))) r
-        (three (now (luma .exit)) (now (u .exit)) (now (v .exit))) ⌝ }
+    ensures { λ r. ⌜ Filters (callOf true 8 «luma_stride» «chroma_stride» «level_stride» width height layout superblock «level_u» «level_v» row)
+        (now (luma .entry)) (now (u .entry)) (now (v .entry)) (now (levels .entry)) (now (masks .entry)) (now (e .entry)) (now (i .entry)) r
+        (now (luma .exit)) (now (u .exit)) (now (v .exit)) ⌝ }
 {
-    let c = Call {
-        width: Sample(width as usize),
-        height: Sample(height as usize),
-        layout: layout as usize,
-        superblock: superblock as usize,
-        depth: 8,
-        level_u: level_u as usize,
-        level_v: level_v as usize,
-        row: row as usize,
-        rowwise: true,
+    let c = call(
+        true,
+        8,
         luma_stride,
         chroma_stride,
         level_stride,
-    };
+        width,
+        height,
+        layout,
+        superblock,
+        level_u,
+        level_v,
+        row,
+    );
     filter_8(luma, u, v, c, levels, masks, e, i)
 }
 
 fn plane_16(
     s: &mut [u16],
     c: Call,
-    n: usize,
+    plane: usize,
     levels: &[u8],
     masks: &[u16],
     e: &[u8; 64],
     i: &[u8; 64],
 )
-    requires { ⌜ Ready16 c (tables (c .depth) (now levels) (now masks) (now e) (now i)) n (now s) ⌝ }
-    ensures { λ _. ⌜ now (s .exit) ≡ swept c (tables (c .depth) (now (levels .entry)) (now (masks .entry)) (now (e .entry)) (now (i .entry))) n (now (s .entry)) ⌝ }
+    requires { ⌜ Ready16 c (tables (c .depth) (now levels) (now masks) (now e) (now i)) plane (now s) ⌝ }
+    ensures { λ _. ⌜ now (s .exit) ≡ swept c (tables (c .depth) (now (levels .entry)) (now (masks .entry)) (now (e .entry)) (now (i .entry))) plane (now (s .entry)) ⌝ }
 {
     filter::plane_16(
         s,
-        component(c, n),
+        component(c, plane),
         c.rowwise,
         c.row,
         levels,
@@ -231,9 +269,8 @@ fn filter_16(
     e: &[u8; 64],
     i: &[u8; 64],
 ) -> u32
-    ensures { λ r. ⌜ FilterAnswer c (limits (now (e .entry)) (now (i .entry)))
-        (lent (now (luma .entry)) (now (u .entry)) (now (v .entry)) (now (levels .entry)) (now (masks .entry))) r
-        (three (now (luma .exit)) (now (u .exit)) (now (v .exit))) ⌝ }
+    ensures { λ r. ⌜ Filters c (now (luma .entry)) (now (u .entry)) (now (v .entry)) (now (levels .entry)) (now (masks .entry)) (now (e .entry)) (now (i .entry)) r
+        (now (luma .exit)) (now (u .exit)) (now (v .exit)) ⌝ }
 {
     let n = number_16(c, luma, u, v, levels, masks);
     if n != 0 {
@@ -264,25 +301,24 @@ pub fn columns_16(
     level_v: u32,
     row: u32,
 ) -> u32
-    ensures { λ r. ⌜ FilterAnswer (callOf false depth «luma_stride» «chroma_stride» «level_stride» width height layout superblock «level_u» «level_v» row)
-        (limits (now (e .entry)) (now (i .entry)))
-        (lent (now (luma .entry)) (now (u .entry)) (now (v .entry)) (now (levels .entry)) (now (masks .entry))) r
-        (three (now (luma .exit)) (now (u .exit)) (now (v .exit))) ⌝ }
+    ensures { λ r. ⌜ Filters (callOf false depth «luma_stride» «chroma_stride» «level_stride» width height layout superblock «level_u» «level_v» row)
+        (now (luma .entry)) (now (u .entry)) (now (v .entry)) (now (levels .entry)) (now (masks .entry)) (now (e .entry)) (now (i .entry)) r
+        (now (luma .exit)) (now (u .exit)) (now (v .exit)) ⌝ }
 {
-    let c = Call {
-        width: Sample(width as usize),
-        height: Sample(height as usize),
-        layout: layout as usize,
-        superblock: superblock as usize,
+    let c = call(
+        false,
         depth,
-        level_u: level_u as usize,
-        level_v: level_v as usize,
-        row: row as usize,
-        rowwise: false,
         luma_stride,
         chroma_stride,
         level_stride,
-    };
+        width,
+        height,
+        layout,
+        superblock,
+        level_u,
+        level_v,
+        row,
+    );
     filter_16(luma, u, v, c, levels, masks, e, i)
 }
 
@@ -306,25 +342,24 @@ pub fn rows_16(
     level_v: u32,
     row: u32,
 ) -> u32
-    ensures { λ r. ⌜ FilterAnswer (callOf true depth «luma_stride» «chroma_stride» «level_stride» width height layout superblock «level_u» «level_v» row)
-        (limits (now (e .entry)) (now (i .entry)))
-        (lent (now (luma .entry)) (now (u .entry)) (now (v .entry)) (now (levels .entry)) (now (masks .entry))) r
-        (three (now (luma .exit)) (now (u .exit)) (now (v .exit))) ⌝ }
+    ensures { λ r. ⌜ Filters (callOf true depth «luma_stride» «chroma_stride» «level_stride» width height layout superblock «level_u» «level_v» row)
+        (now (luma .entry)) (now (u .entry)) (now (v .entry)) (now (levels .entry)) (now (masks .entry)) (now (e .entry)) (now (i .entry)) r
+        (now (luma .exit)) (now (u .exit)) (now (v .exit)) ⌝ }
 {
-    let c = Call {
-        width: Sample(width as usize),
-        height: Sample(height as usize),
-        layout: layout as usize,
-        superblock: superblock as usize,
+    let c = call(
+        true,
         depth,
-        level_u: level_u as usize,
-        level_v: level_v as usize,
-        row: row as usize,
-        rowwise: true,
         luma_stride,
         chroma_stride,
         level_stride,
-    };
+        width,
+        height,
+        layout,
+        superblock,
+        level_u,
+        level_v,
+        row,
+    );
     filter_16(luma, u, v, c, levels, masks, e, i)
 }
 

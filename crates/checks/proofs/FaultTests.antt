@@ -88,7 +88,7 @@ module _ (c : Call) where
   pub reflects-on : Reflects (chromaOn c) ((¬ (c .layout ≡ 400)) × (¬ ((c .«level_u» ≡ 0) × (c .«level_v» ≡ 0))))
   reflects-on = reflects-and (reflects-chroma (c .layout)) (reflects-not (reflects-and (reflects-eqb (c .«level_u») 0) (reflects-eqb (c .«level_v») 0)))
 
-  reflects-planes : (test : ℕ → Bool) (P : ℕ → Type 0) → ((n : ℕ) → Reflects (test n) (P n)) → Reflects (anyPlane c test) ((n : ℕ) × Filtered c n × P n)
+  reflects-planes : (test : ℕ → Bool) (P : ℕ → Type 0) → ((plane : ℕ) → Reflects (test plane) (P plane)) → Reflects (anyPlane c test) ((plane : ℕ) × Filtered c plane × P plane)
   reflects-planes test P r =
       reflects-as
       (record {
@@ -99,7 +99,7 @@ module _ (c : Call) where
       })
       (reflects-or (r 0) (reflects-and reflects-on (reflects-or (r 1) (r 2))))
     where
-      plain : {n : ℕ} → Filtered c n → P n → P 0 ⊎ (((¬ (c .layout ≡ 400)) × (¬ ((c .«level_u» ≡ 0) × (c .«level_v» ≡ 0)))) × (P 1 ⊎ P 2))
+      plain : {plane : ℕ} → Filtered c plane → P plane → P 0 ⊎ (((¬ (c .layout ≡ 400)) × (¬ ((c .«level_u» ≡ 0) × (c .«level_v» ≡ 0)))) × (P 1 ⊎ P 2))
       plain luma x = inl x
       plain (chroma-u l b) x = inr ((l, b), inl x)
       plain (chroma-v l b) x = inr ((l, b), inr x)
@@ -113,8 +113,8 @@ module _ (c : Call) where
         only = λ p. record { plane = p .0; filtered = p .1; broken = p .2 };
         always = λ f. (f .plane, f .filtered, f .broken);
       })
-      (reflects-planes (λ n. gap (gridOf c n) (m .masks) (callPass c) (sb4 c) (c .row)) (λ n. Gap (gridOf c n) (m .masks) (callPass c) (sb4 c) (c .row))
-      (λ n. gaps.promises .eleven (gridOf c n) (m .masks) (callPass c) (sb4 c) (c .row) (proper c n .ss-hor-le)))
+      (reflects-planes (λ plane. gap (gridOf c plane) (m .masks) (callPass c) (sb4 c) (c .row)) (λ plane. Gap (gridOf c plane) (m .masks) (callPass c) (sb4 c) (c .row))
+      (λ plane. gaps.promises .eleven (gridOf c plane) (m .masks) (callPass c) (sb4 c) (c .row) (proper c plane .ss-hor-le)))
 
   pub reflects-mask : (m : Lent) → Reflects (maskBad c (m .masks)) (MaskFault c m)
   reflects-mask m =
@@ -123,8 +123,8 @@ module _ (c : Call) where
         only = λ p. record { plane = p .0; filtered = p .1; bit = p .2 };
         always = λ f. (f .plane, f .filtered, f .bit);
       })
-      (reflects-planes (λ n. outside (gridOf c n) (m .masks) (callPass c) (sb4 c) (c .row)) (λ n. Outside (gridOf c n) (m .masks) (callPass c) (sb4 c) (c .row))
-      (λ n. gaps.promises .twelve (gridOf c n) (m .masks) (callPass c) (sb4 c) (c .row)))
+      (reflects-planes (λ plane. outside (gridOf c plane) (m .masks) (callPass c) (sb4 c) (c .row)) (λ plane. Outside (gridOf c plane) (m .masks) (callPass c) (sb4 c) (c .row))
+      (λ plane. gaps.promises .twelve (gridOf c plane) (m .masks) (callPass c) (sb4 c) (c .row)))
 
   -- ---- numbers 8, 9 and 10, where superblocks have a size
 
@@ -145,35 +145,35 @@ module _ (c : Call) where
         })
         (reflects-and reflects-inside
         (reflects-planes
-        (λ n. levelsHigh (m .levels) (c .«level_stride») (areaOf c n) (unitsOf (gridOf c n) columns) (unitsOf (gridOf c n) rows) (sbUnits (gridOf c n) (sb4 c)) (passNo (callPass c)) (c .row))
-        (λ n. LevelHigh (m .levels) (c .«level_stride») (areaOf c n) (unitsOf (gridOf c n) columns) (unitsOf (gridOf c n) rows) (sbUnits (gridOf c n) (sb4 c)) (passNo (callPass c)) (c .row))
-        (λ n. scans.promises .eight (m .levels) (c .«level_stride») (areaOf c n) (unitsOf (gridOf c n) columns) (unitsOf (gridOf c n) rows) (sbUnits (gridOf c n) (sb4 c))
+        (λ plane. levelsHigh (m .levels) (c .«level_stride») (areaOf c plane) (unitsOf (gridOf c plane) columns) (unitsOf (gridOf c plane) rows) (sbUnits (gridOf c plane) (sb4 c)) (passNo (callPass c)) (c .row))
+        (λ plane. LevelHigh (m .levels) (c .«level_stride») (areaOf c plane) (unitsOf (gridOf c plane) columns) (unitsOf (gridOf c plane) rows) (sbUnits (gridOf c plane) (sb4 c)) (passNo (callPass c)) (c .row))
+        (λ plane. scans.promises .eight (m .levels) (c .«level_stride») (areaOf c plane) (unitsOf (gridOf c plane) columns) (unitsOf (gridOf c plane) rows) (sbUnits (gridOf c plane) (sb4 c))
         (passNo (callPass c)) (c .row))))
 
-    module _ (n : ℕ) (s : List ℕ) where
+    module _ (plane : ℕ) (s : List ℕ) where
       abbrev width : ℕ
-      width = stored (c .width .0) (ss-hor c n)
+      width = stored (c .width .0) (ss-hor c plane)
 
       abbrev down : ℕ
-      down = stored (c .height .0) (ss-ver c n)
+      down = stored (c .height .0) (ss-ver c plane)
 
       abbrev High : Type 0
-      High = SampleHigh s (strideOf c n) (2 ^ c .depth - 1) width (chromaUnit (ss-ver c n) (sb4 c)) (8 * passNo (callPass c)) (c .row)
+      High = SampleHigh s (strideOf c plane) (2 ^ c .depth - 1) width (chromaUnit (ss-ver c plane) (sb4 c)) (8 * passNo (callPass c)) (c .row)
 
-      reflects-samples : Reflects (planeBad c n s) (SampleFault c n s)
+      reflects-samples : Reflects (planeBad c plane s) (SampleFault c plane s)
       unfolding planeBad
       reflects-samples =
           reflects-as (record { only = ⊎-elim short (λ t. too-high (t .0) (t .1)); always = plain })
-          (reflects-or (reflects-not (reflects-plane (length s) (strideOf c n) width down))
+          (reflects-or (reflects-not (reflects-plane (length s) (strideOf c plane) width down))
           (reflects-and reflects-inside
-          (scans.promises .nine s (strideOf c n) (2 ^ c .depth - 1) width (chromaUnit (ss-ver c n) (sb4 c)) (8 * passNo (callPass c)) (c .row))))
+          (scans.promises .nine s (strideOf c plane) (2 ^ c .depth - 1) width (chromaUnit (ss-ver c plane) (sb4 c)) (8 * passNo (callPass c)) (c .row))))
         where
-          short : ¬ ((width ≤ strideOf c n) × (strideOf c n * down ≤ length s)) → SampleFault c n s
+          short : ¬ ((width ≤ strideOf c plane) × (strideOf c plane * down ≤ length s)) → SampleFault c plane s
           short h =
-              by-cases (decLt (strideOf c n) width) stride-short
-              (λ f. let g : ¬ (strideOf c n * down ≤ length s) = λ l. h (omega arith, l) in too-short (omega arith))
+              by-cases (decLt (strideOf c plane) width) stride-short
+              (λ f. let g : ¬ (strideOf c plane * down ≤ length s) = λ l. h (omega arith, l) in too-short (omega arith))
 
-          plain : SampleFault c n s → (¬ ((width ≤ strideOf c n) × (strideOf c n * down ≤ length s))) ⊎ (InFrame c × High)
+          plain : SampleFault c plane s → (¬ ((width ≤ strideOf c plane) × (strideOf c plane * down ≤ length s))) ⊎ (InFrame c × High)
           plain (stride-short h) = inl (λ q. omega (arith, q .0))
           plain (too-short h) = inl (λ q. omega (arith, q .1))
           plain (too-high i h) = inr (i, h)
@@ -185,4 +185,4 @@ module _ (c : Call) where
           only = λ t. record { plane = t .0; filtered = t .1; fault = t .2 };
           always = λ f. (f .plane, f .filtered, f .fault);
         })
-        (reflects-planes (λ n. planeBad c n (samples m n)) (λ n. SampleFault c n (samples m n)) (λ n. reflects-samples n (samples m n)))
+        (reflects-planes (λ plane. planeBad c plane (samples m plane)) (λ plane. SampleFault c plane (samples m plane)) (λ plane. reflects-samples plane (samples m plane)))

@@ -36,9 +36,9 @@ module _ (c : Call) where
 
   module _ (ls : List ℕ) where
     abbrev height : ℕ → Bool
-    height n = levelsHigh ls (c .«level_stride») (areaOf c n) (unitsOf (gridOf c n) columns) (unitsOf (gridOf c n) rows) (sbUnits (gridOf c n) (sb4 c)) (passNo (callPass c)) (c .row)
+    height plane = levelsHigh ls (c .«level_stride») (areaOf c plane) (unitsOf (gridOf c plane) columns) (unitsOf (gridOf c plane) rows) (sbUnits (gridOf c plane) (sb4 c)) (passNo (callPass c)) (c .row)
 
-    luma-high : lumaLevelsHigh ls (c .«level_stride») (w4 c) (h4 c) (sb4 c) (passNo (callPass c)) (c .row) ≡ height 0
+    luma-high : lumaLevelsHigh ls (c .«level_stride») (w4 c) (h4 c) (sb4 c) (callPass c) (c .row) ≡ height 0
     luma-high i = levelsHigh ls (c .«level_stride») (areaOf c 0) (units-0 (w4 c) i) (units-0 (h4 c) i) (unit-0 (sb4 c) i) (passNo (callPass c)) (c .row)
 
     pub levels-out : inside c ≡ false → false ≡ levelsBad c ls
@@ -46,44 +46,44 @@ module _ (c : Call) where
     levels-out e = rw e refl
 
     pub levels-luma : {r : Bool} → inside c ≡ true → chromaOn c ≡ false
-        → r ≡ lumaLevelsHigh ls (c .«level_stride») (w4 c) (h4 c) (sb4 c) (passNo (callPass c)) (c .row) → r ≡ levelsBad c ls
+        → r ≡ lumaLevelsHigh ls (c .«level_stride») (w4 c) (h4 c) (sb4 c) (callPass c) (c .row) → r ≡ levelsBad c ls
     unfolding levelsBad
     levels-luma e o h = rw e (luma-only height o (h ∙ luma-high))
 
     pub levels-all : {r s : Bool} → inside c ≡ true → chromaOn c ≡ true
-        → r ≡ lumaLevelsHigh ls (c .«level_stride») (w4 c) (h4 c) (sb4 c) (passNo (callPass c)) (c .row)
-        → s ≡ chromaLevelsHigh ls (c .«level_stride») (w4 c) (h4 c) (ss-hor c 1) (ss-ver c 1) (sb4 c) (passNo (callPass c)) (c .row) → (r || s) ≡ levelsBad c ls
+        → r ≡ lumaLevelsHigh ls (c .«level_stride») (w4 c) (h4 c) (sb4 c) (callPass c) (c .row)
+        → s ≡ chromaLevelsHigh ls (c .«level_stride») (w4 c) (h4 c) (ss-hor c 1) (ss-ver c 1) (sb4 c) (callPass c) (c .row) → (r || s) ≡ levelsBad c ls
     unfolding levelsBad
     levels-all e o h k = rw e (with-chroma height o (h ∙ luma-high) k)
 
   -- ---- number 9
 
-  module _ (n : ℕ) (s : List ℕ) where
+  module _ (plane : ℕ) (s : List ℕ) where
     abbrev short : Bool
-    short = not (planeOk (length s) (strideOf c n) (stored (c .width .0) (ss-hor c n)) (stored (c .height .0) (ss-ver c n)))
+    short = not (planeOk (length s) (strideOf c plane) (stored (c .width .0) (ss-hor c plane)) (stored (c .height .0) (ss-ver c plane)))
 
     abbrev samplesOver : Bool
-    samplesOver = samplesHigh s (strideOf c n) (2 ^ c .depth - 1) (stored (c .width .0) (ss-hor c n)) (chromaUnit (ss-ver c n) (sb4 c)) (8 * passNo (callPass c)) (c .row)
+    samplesOver = samplesHigh s (strideOf c plane) (2 ^ c .depth - 1) (stored (c .width .0) (ss-hor c plane)) (chromaUnit (ss-ver c plane) (sb4 c)) (8 * passNo (callPass c)) (c .row)
 
-    pub plane-short : short ≡ true → true ≡ planeBad c n s
+    pub plane-short : short ≡ true → true ≡ planeBad c plane s
     unfolding planeBad
     plane-short e = rw e refl
 
-    pub plane-out : short ≡ false → inside c ≡ false → false ≡ planeBad c n s
+    pub plane-out : short ≡ false → inside c ≡ false → false ≡ planeBad c plane s
     unfolding planeBad
     plane-out e o = rw (e, o) refl
 
-    pub plane-read : {r : Bool} → short ≡ false → inside c ≡ true → r ≡ samplesOver → r ≡ planeBad c n s
+    pub plane-read : {r : Bool} → short ≡ false → inside c ≡ true → r ≡ samplesOver → r ≡ planeBad c plane s
     unfolding planeBad
     plane-read e o h = rw (e, o) h
 
     -- a byte is no sample above depth 8's maximum
-    pub plane-bytes : {r : Bool} → c .depth ≡ 8 → ((k : ℕ) → getD s k 0 < 256) → r ≡ short → r ≡ planeBad c n s
+    pub plane-bytes : {r : Bool} → c .depth ≡ 8 → ((k : ℕ) → getD s k 0 < 256) → r ≡ short → r ≡ planeBad c plane s
     unfolding planeBad
     plane-bytes d b e = rw none (e ∙ sym (none-too (inside c) short))
       where
         none : samplesOver ≡ false
-        none = let p : 2 ^ c .depth ≡ 2 ^ 8 = ap (λ (x : ℕ). 2 ^ x) d in unmet _ (promises .nine s _ _ _ _ _ _) (λ h. omega (arith, h .too-high, b (h .y * strideOf c n + h .x)))
+        none = let p : 2 ^ c .depth ≡ 2 ^ 8 = ap (λ (x : ℕ). 2 ^ x) d in unmet _ (promises .nine s _ _ _ _ _ _) (λ h. omega (arith, h .too-high, b (h .y * strideOf c plane + h .x)))
 
         none-too : (a b : Bool) → (b || (a && false)) ≡ b
         none-too true b = or-false b
@@ -91,24 +91,24 @@ module _ (c : Call) where
 
   module _ (m : Lent) where
     pub planes-luma : {r : Bool} → chromaOn c ≡ false → r ≡ planeBad c 0 (m .luma) → r ≡ planesBad c m
-    planes-luma o e = luma-only (λ n. planeBad c n (samples m n)) o e
+    planes-luma o e = luma-only (λ plane. planeBad c plane (samples m plane)) o e
 
     pub planes-all : {r s : Bool} → chromaOn c ≡ true → r ≡ planeBad c 0 (m .luma) → s ≡ (planeBad c 1 (m .u) || planeBad c 2 (m .v)) → (r || s) ≡ planesBad c m
-    planes-all o e f = with-chroma (λ n. planeBad c n (samples m n)) o e f
+    planes-all o e f = with-chroma (λ plane. planeBad c plane (samples m plane)) o e f
 
   -- ---- numbers 11 and 12
 
   module _ (ms : List ℕ) (r : Both) (f : Found (gridOf c 0) ms (callPass c) (sb4 c) (c .row) r) where
     pub found-luma : chromaOn c ≡ false → (r .gap ≡ gapBad c ms) × (r .out ≡ maskBad c ms)
     found-luma o = (
-      luma-only (λ n. gap (gridOf c n) ms (callPass c) (sb4 c) (c .row)) o (f .eleven),
-      luma-only (λ n. outside (gridOf c n) ms (callPass c) (sb4 c) (c .row)) o (f .twelve),
+      luma-only (λ plane. gap (gridOf c plane) ms (callPass c) (sb4 c) (c .row)) o (f .eleven),
+      luma-only (λ plane. outside (gridOf c plane) ms (callPass c) (sb4 c) (c .row)) o (f .twelve),
     )
 
     -- U and V share their masks
     pub found-all : (s : Both) → Found (gridOf c 1) ms (callPass c) (sb4 c) (c .row) s → chromaOn c ≡ true
         → ((r .gap || s .gap) ≡ gapBad c ms) × ((r .out || s .out) ≡ maskBad c ms)
     found-all s g o = (
-      with-chroma (λ n. gap (gridOf c n) ms (callPass c) (sb4 c) (c .row)) o (f .eleven) (g .eleven ∙ sym (or-self _)),
-      with-chroma (λ n. outside (gridOf c n) ms (callPass c) (sb4 c) (c .row)) o (f .twelve) (g .twelve ∙ sym (or-self _)),
+      with-chroma (λ plane. gap (gridOf c plane) ms (callPass c) (sb4 c) (c .row)) o (f .eleven) (g .eleven ∙ sym (or-self _)),
+      with-chroma (λ plane. outside (gridOf c plane) ms (callPass c) (sb4 c) (c .row)) o (f .twelve) (g .twelve ∙ sym (or-self _)),
     )

@@ -2,8 +2,9 @@
 use mathlib.Core.Bool.{Bool, true, false, cond, not, _||_, false≢true}
 use mathlib.Core.Logic.{_⊎_, inl, inr, ⊎-elim}
 use mathlib.Core.Path.{_≡_, refl, sym, _∙_}
-use Prim.Native.Nat.{ℕ, zero, suc, _*_, _<_, _≤_}
+use Prim.Native.Nat.{ℕ, _*_, _<_, _≤_}
 use native.Mathlib.Omega.{arith}
+use lib.Dec.{eqb}
 use borrow.Author.Tests.{not-true, not-false, ltb-true}
 use Rattle.loops.specs.Exactly.{Reflects}
 use Rattle.loops.proofs.Reflected.{reflects-eqb, reflects-or}
@@ -14,12 +15,12 @@ use Rattle.units.specs.Frame.{frameOk, superblockOk, stored}
 use Rattle.units.specs.Memory.{levelsOk, planeOk, masksOk}
 use Rattle.units.proofs.Places.{superblock-in, ss-hor-le, ss-ver-le}
 use Rattle.units.proofs.Tests.{reflects-frame, reflects-superblock, reflects-levels, reflects-masks, reflects-plane}
-use Rattle.plane.specs.Line.{rows, columns, passNo}
+use Rattle.edges.specs.Edges as edges
 use Rattle.edges.specs.Edges.{Proper}
 use Rattle.scans.specs.Fits.{SbRow, LevelsFit, SamplesFit}
 use Rattle.gap.specs.Fits.{MasksFit}
 use Rattle.checks.specs.declared.Call.{Call}
-use Rattle.checks.specs.Call.{callPass, w4, h4, sb4, ss-hor, ss-ver, gridOf, strideOf, Shaped, Roomy}
+use Rattle.checks.specs.Call.{w4, h4, sb4, ss-hor, ss-ver, gridOf, strideOf, Shaped, Roomy}
 use Rattle.checks.specs.Tests.{depthBad, shapeBad, lengthBad, inside}
 
 -- ---- the code's tests, by the contract of what they call
@@ -80,43 +81,26 @@ module _ (c : Call) where
   masks-fit levels masks s e r =
       record { size = sizes s; down = in-frame s e; width = omega (arith, s .width); height = omega (arith, s .height); long = r .masks-long }
 
-  pub samples-fit : (n len : ℕ) → Shaped c → inside c ≡ true
-      → planeOk len (strideOf c n) (stored (c .width .0) (ss-hor c n)) (stored (c .height .0) (ss-ver c n)) ≡ true
-      → SamplesFit len (strideOf c n) (c .width .0) (c .height .0) (ss-hor c n) (ss-ver c n) (sb4 c) (c .row)
-  samples-fit n len s e h =
-      let p = reflects-plane len (strideOf c n) (stored (c .width .0) (ss-hor c n)) (stored (c .height .0) (ss-ver c n)) .yes h in
+  pub samples-fit : (plane len : ℕ) → Shaped c → inside c ≡ true
+      → planeOk len (strideOf c plane) (stored (c .width .0) (ss-hor c plane)) (stored (c .height .0) (ss-ver c plane)) ≡ true
+      → SamplesFit len (strideOf c plane) (c .width .0) (c .height .0) (ss-hor c plane) (ss-ver c plane) (sb4 c) (c .row)
+  samples-fit plane len s e h =
+      let p = reflects-plane len (strideOf c plane) (stored (c .width .0) (ss-hor c plane)) (stored (c .height .0) (ss-ver c plane)) .yes h in
       record { row = sb-row s e; some = omega (arith, s .width); most = omega (arith, s .width); right = p .0; long = p .1 }
 
-  pub pass-below : passNo (callPass c) < 2
-  pass-below = go (c .rowwise)
+  pub proper : (plane : ℕ) → Proper (gridOf c plane)
+  proper plane = go (eqb plane 0)
     where
-      go : (b : Bool) → passNo (cond b rows columns) < 2
-      go true = omega arith
-      go false = omega arith
+      go : (luma : Bool) → Proper (edges.gridOf luma (cond luma 0 (ssHor (c .layout))) (cond luma 0 (ssVer (c .layout))) (w4 c) (h4 c))
+      go true = record { ss-hor-le = omega arith; ss-ver-le = omega arith; luma-x = λ _. refl; luma-y = λ _. refl }
+      go false =
+          record {
+            ss-hor-le = ss-hor-le (c .layout);
+            ss-ver-le = ss-ver-le (c .layout);
+            luma-x = λ e. absurd (false≢true e);
+            luma-y = λ e. absurd (false≢true e);
+          }
 
-  pub plane-ss-hor-le : (n : ℕ) → ss-hor c n ≤ 1
-  plane-ss-hor-le zero = omega arith
-  plane-ss-hor-le (suc n) = ss-hor-le (c .layout)
-
-  pub plane-ss-ver-le : (n : ℕ) → ss-ver c n ≤ 1
-  plane-ss-ver-le zero = omega arith
-  plane-ss-ver-le (suc n) = ss-ver-le (c .layout)
-
-  -- a plane of chroma
-  pub later : (n : ℕ) → ¬ (n ≡ 0) → (ss-hor c n ≡ ssHor (c .layout)) × (ss-ver c n ≡ ssVer (c .layout)) × (strideOf c n ≡ c .«chroma_stride»)
-  later zero e = absurd (e refl)
-  later (suc n) e = (refl, refl, refl)
-
-  pub stored-some : (n : ℕ) → Shaped c → 0 < stored (c .height .0) (ss-ver c n)
-  stored-some n s =
-      let h = s .height .0 in each-at 2 (λ t. 0 < stored (c .height .0) t) (omega arith, (omega arith, tt)) (ss-ver c n) (omega (arith, plane-ss-ver-le n))
-
-  pub proper : (n : ℕ) → Proper (gridOf c n)
-  proper zero = record { ss-hor-le = omega arith; ss-ver-le = omega arith; luma-x = λ _. refl; luma-y = λ _. refl }
-  proper (suc n) =
-      record {
-        ss-hor-le = ss-hor-le (c .layout);
-        ss-ver-le = ss-ver-le (c .layout);
-        luma-x = λ e. absurd (false≢true e);
-        luma-y = λ e. absurd (false≢true e);
-      }
+  pub stored-some : (plane : ℕ) → Shaped c → 0 < stored (c .height .0) (ss-ver c plane)
+  stored-some plane s =
+      let h = s .height .0 in each-at 2 (λ t. 0 < stored (c .height .0) t) (omega arith, (omega arith, tt)) (ss-ver c plane) (omega (arith, proper plane .ss-ver-le))

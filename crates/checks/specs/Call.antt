@@ -1,15 +1,15 @@
 -- A call that filters one pass of superblock row `row`: its frame and the planes of it. A plane is 0 for luma, 1 for U, 2 for V.
 --   Lent                        the lent memory
 --   lent                        of these
---   samples m n                 the samples of plane n
---   callPass c                    columns or rows
+--   samples m plane             the samples of a plane
+--   callPass c                  columns or rows
 --   w4, h4, sb4                 the frame and its superblocks, in luma units
---   ss-hor c n, ss-ver c n            the subsampling of plane n
---   gridOf c n                  its units
---   strideOf c n                its stride
---   areaOf c n                  its level byte in this pass
+--   ss-hor, ss-ver c plane      the subsampling of a plane
+--   gridOf c plane              its units
+--   strideOf c plane            its stride
+--   areaOf c plane              its level byte in this pass
 --   chromaOn c                  chroma is filtered: there is chroma, and not both of its base levels are 0
---   Filtered c n                plane n is filtered
+--   Filtered c plane            a plane is filtered
 --   Shaped c                    what number 4 leaves
 --   Roomy c levels masks        what number 7 leaves, of these lengths
 use mathlib.Core.Bool.{Bool, cond, not, _&&_}
@@ -18,11 +18,12 @@ use mathlib.Core.Logic.{_⊎_}
 use mathlib.Core.Path.{_≡_}
 use Prim.Native.Nat.{ℕ, zero, suc, _*_, _≤_}
 use lib.Dec.{eqb}
-use Rattle.plane.specs.Line.{Pass, columns, rows, passNo}
+use Rattle.plane.specs.Line.{Pass, passOf, passNo}
 use Rattle.units.specs.Units.{unitsOf}
 use Rattle.units.specs.Layout.{hasChroma, ssHor, ssVer}
 use Rattle.units.specs.Frame.{frameRecords, superblockUnits}
-use Rattle.edges.specs.Edges.{Grid, lumaGrid, chromaGrid}
+use Rattle.edges.specs.Edges as edges
+use Rattle.edges.specs.Edges.{Grid}
 use Rattle.checks.specs.declared.Call.{Call}
 
 pub record Lent : Type 0 where
@@ -38,10 +39,10 @@ lent luma u v levels masks = record { luma = luma; u = u; v = v; levels = levels
 abbrev pub samples : Lent → ℕ → List ℕ
 samples m zero = m .luma
 samples m (suc zero) = m .u
-samples m (suc (suc n)) = m .v
+samples m (suc (suc plane)) = m .v
 
 abbrev pub callPass : Call → Pass
-callPass c = cond (c .rowwise) rows columns
+callPass c = passOf (c .rowwise)
 
 abbrev pub w4 : Call → ℕ
 w4 c = unitsOf (c .width .0)
@@ -53,24 +54,19 @@ abbrev pub sb4 : Call → ℕ
 sb4 c = superblockUnits (c .superblock)
 
 abbrev pub ss-hor : Call → ℕ → ℕ
-ss-hor c zero = 0
-ss-hor c (suc n) = ssHor (c .layout)
+ss-hor c plane = cond (eqb plane 0) 0 (ssHor (c .layout))
 
 abbrev pub ss-ver : Call → ℕ → ℕ
-ss-ver c zero = 0
-ss-ver c (suc n) = ssVer (c .layout)
+ss-ver c plane = cond (eqb plane 0) 0 (ssVer (c .layout))
 
 abbrev pub gridOf : Call → ℕ → Grid
-gridOf c zero = lumaGrid (w4 c) (h4 c)
-gridOf c (suc n) = chromaGrid (ssHor (c .layout)) (ssVer (c .layout)) (w4 c) (h4 c)
+gridOf c plane = edges.gridOf (eqb plane 0) (ss-hor c plane) (ss-ver c plane) (w4 c) (h4 c)
 
 abbrev pub strideOf : Call → ℕ → ℕ
-strideOf c zero = c .«luma_stride»
-strideOf c (suc n) = c .«chroma_stride»
+strideOf c plane = cond (eqb plane 0) (c .«luma_stride») (c .«chroma_stride»)
 
 abbrev pub areaOf : Call → ℕ → ℕ
-areaOf c zero = passNo (callPass c)
-areaOf c (suc n) = suc (suc n)
+areaOf c plane = cond (eqb plane 0) (passNo (callPass c)) (suc plane)
 
 abbrev pub chromaOn : Call → Bool
 chromaOn c = hasChroma (c .layout) && not (eqb (c .«level_u») 0 && eqb (c .«level_v») 0)

@@ -54,12 +54,12 @@ pub record LevelByteFault (c : Call) (m : Lent) : Type 0 where
   pub height : LevelHigh (m .levels) (c .«level_stride») (areaOf c plane) (unitsOf (gridOf c plane) columns) (unitsOf (gridOf c plane) rows)
       (sbUnits (gridOf c plane) (sb4 c)) (passNo (callPass c)) (c .row)
 
-pub data SampleFault (c : Call) (n : ℕ) (s : List ℕ) : Type 0 where
-  stride-short : strideOf c n < stored (c .width .0) (ss-hor c n) → SampleFault c n s
-  too-short : length s < strideOf c n * stored (c .height .0) (ss-ver c n) → SampleFault c n s
+pub data SampleFault (c : Call) (plane : ℕ) (s : List ℕ) : Type 0 where
+  stride-short : strideOf c plane < stored (c .width .0) (ss-hor c plane) → SampleFault c plane s
+  too-short : length s < strideOf c plane * stored (c .height .0) (ss-ver c plane) → SampleFault c plane s
   too-high : InFrame c
-      → SampleHigh s (strideOf c n) (2 ^ c .depth - 1) (stored (c .width .0) (ss-hor c n)) (chromaUnit (ss-ver c n) (sb4 c)) (8 * passNo (callPass c)) (c .row)
-      → SampleFault c n s
+      → SampleHigh s (strideOf c plane) (2 ^ c .depth - 1) (stored (c .width .0) (ss-hor c plane)) (chromaUnit (ss-ver c plane) (sb4 c)) (8 * passNo (callPass c)) (c .row)
+      → SampleFault c plane s
 
 pub record PlaneFault (c : Call) (m : Lent) : Type 0 where
   pub plane : ℕ

@@ -51,22 +51,22 @@ unfoldable pub levelsBad : Call → List ℕ → Bool
 levelsBad c ls =
     inside c
     && anyPlane c
-    (λ n. levelsHigh ls (c .«level_stride») (areaOf c n) (unitsOf (gridOf c n) columns) (unitsOf (gridOf c n) rows) (sbUnits (gridOf c n) (sb4 c)) (passNo (callPass c)) (c .row))
+    (λ plane. levelsHigh ls (c .«level_stride») (areaOf c plane) (unitsOf (gridOf c plane) columns) (unitsOf (gridOf c plane) rows) (sbUnits (gridOf c plane) (sb4 c)) (passNo (callPass c)) (c .row))
 
 unfoldable pub planeBad : Call → ℕ → List ℕ → Bool
-planeBad c n s =
-    not (planeOk (length s) (strideOf c n) (stored (c .width .0) (ss-hor c n)) (stored (c .height .0) (ss-ver c n)))
+planeBad c plane s =
+    not (planeOk (length s) (strideOf c plane) (stored (c .width .0) (ss-hor c plane)) (stored (c .height .0) (ss-ver c plane)))
     || (inside c
-    && samplesHigh s (strideOf c n) (2 ^ c .depth - 1) (stored (c .width .0) (ss-hor c n)) (chromaUnit (ss-ver c n) (sb4 c)) (8 * passNo (callPass c)) (c .row))
+    && samplesHigh s (strideOf c plane) (2 ^ c .depth - 1) (stored (c .width .0) (ss-hor c plane)) (chromaUnit (ss-ver c plane) (sb4 c)) (8 * passNo (callPass c)) (c .row))
 
 abbrev pub planesBad : Call → Lent → Bool
-planesBad c m = anyPlane c (λ n. planeBad c n (samples m n))
+planesBad c m = anyPlane c (λ plane. planeBad c plane (samples m plane))
 
 abbrev pub gapBad : Call → List ℕ → Bool
-gapBad c ms = anyPlane c (λ n. gap (gridOf c n) ms (callPass c) (sb4 c) (c .row))
+gapBad c ms = anyPlane c (λ plane. gap (gridOf c plane) ms (callPass c) (sb4 c) (c .row))
 
 abbrev pub maskBad : Call → List ℕ → Bool
-maskBad c ms = anyPlane c (λ n. outside (gridOf c n) ms (callPass c) (sb4 c) (c .row))
+maskBad c ms = anyPlane c (λ plane. outside (gridOf c plane) ms (callPass c) (sb4 c) (c .row))
 
 abbrev pub given : Call → List ℕ → ℕ → ℕ
 given c ls masks =

@@ -10,8 +10,8 @@ use units::frame::superblock_units;
 use units::frame::superblocks_along;
 use units::layout::has_chroma;
 use units::layout::layout_ok;
-use units::layout::ss_hor;
-use units::layout::ss_ver;
+use units::layout::plane_ss_hor;
+use units::layout::plane_ss_ver;
 use units::luma_units;
 use units::memory::levels_ok;
 use units::memory::masks_ok;
@@ -23,17 +23,10 @@ ghost use Prim.Native.Nat.{ℕ, _<_};
 ghost use lib.ListN.{length};
 ghost use Rattle.units.specs.Frame.{stored};
 ghost use Rattle.units.specs.Memory.{planeOk};
-ghost use Rattle.plane.specs.Line.{passNo};
 ghost use Rattle.scans.specs.Scan.{lumaLevelsHigh, chromaLevelsHigh};
 ghost use Rattle.gap.specs.Numbers.{Found};
 ghost use Rattle.checks.specs.Call.{lent, callPass, w4, h4, sb4, ss-hor, ss-ver, gridOf, strideOf, chromaOn, Shaped, Roomy};
 ghost use Rattle.checks.specs.Tests.{levelBad, depthBad, shapeBad, lengthBad, inside, levelsBad, planeBad, planesBad, gapBad, maskBad};
-
-fn pass_of(c: Call) -> usize
-    ensures { λ r. ⌜ r ≡ passNo (callPass c) ⌝ }
-{
-    if c.rowwise { 1 } else { 0 }
-}
 
 pub fn chroma_on(c: Call) -> bool
     ensures { λ r. ⌜ r ≡ chromaOn c ⌝ }
@@ -78,32 +71,32 @@ pub fn inside(c: Call) -> bool
 
 fn luma_high(c: Call, levels: &[u8]) -> bool
     requires { ⌜ Shaped c × (inside c ≡ true) × ((m : ℕ) × Roomy c (length (now levels)) m) ⌝ }
-    ensures { λ r. ⌜ r ≡ lumaLevelsHigh (now (levels .entry)) (c .«level_stride») (w4 c) (h4 c) (sb4 c) (passNo (callPass c)) (c .row) ⌝ }
+    ensures { λ r. ⌜ r ≡ lumaLevelsHigh (now (levels .entry)) (c .«level_stride») (w4 c) (h4 c) (sb4 c) (callPass c) (c .row) ⌝ }
 {
     let w4 = luma_units(c.width);
     let h4 = luma_units(c.height);
     let sb4 = superblock_units(c.superblock);
-    scans::luma_levels_high(levels, c.level_stride, w4, h4, sb4, pass_of(c), c.row)
+    scans::luma_levels_high(levels, c.level_stride, w4, h4, sb4, c.rowwise, c.row)
 }
 
 fn chroma_high(c: Call, levels: &[u8]) -> bool
     requires { ⌜ Shaped c × (inside c ≡ true) × ((m : ℕ) × Roomy c (length (now levels)) m) ⌝ }
-    ensures { λ r. ⌜ r ≡ chromaLevelsHigh (now (levels .entry)) (c .«level_stride») (w4 c) (h4 c) (ss-hor c 1) (ss-ver c 1) (sb4 c) (passNo (callPass c)) (c .row) ⌝ }
+    ensures { λ r. ⌜ r ≡ chromaLevelsHigh (now (levels .entry)) (c .«level_stride») (w4 c) (h4 c) (ss-hor c 1) (ss-ver c 1) (sb4 c) (callPass c) (c .row) ⌝ }
 {
     let w4 = luma_units(c.width);
     let h4 = luma_units(c.height);
     let sb4 = superblock_units(c.superblock);
-    let hor = ss_hor(c.layout);
-    let ver = ss_ver(c.layout);
+    let ss_hor = units::layout::ss_hor(c.layout);
+    let ss_ver = units::layout::ss_ver(c.layout);
     scans::chroma_levels_high(
         levels,
         c.level_stride,
         w4,
         h4,
-        hor,
-        ver,
+        ss_hor,
+        ss_ver,
         sb4,
-        pass_of(c),
+        c.rowwise,
         c.row,
     )
 }
@@ -122,43 +115,31 @@ pub fn levels_bad(c: Call, levels: &[u8]) -> bool
     luma | chroma_high(c, levels)
 }
 
-pub fn hor(c: Call, n: usize) -> usize
-    ensures { λ r. ⌜ r ≡ ss-hor c n ⌝ }
+pub fn stride_of(c: Call, plane: usize) -> usize
+    ensures { λ r. ⌜ r ≡ strideOf c plane ⌝ }
 {
-    if n == 0 { 0 } else { ss_hor(c.layout) }
-}
-
-pub fn ver(c: Call, n: usize) -> usize
-    ensures { λ r. ⌜ r ≡ ss-ver c n ⌝ }
-{
-    if n == 0 { 0 } else { ss_ver(c.layout) }
-}
-
-pub fn stride_of(c: Call, n: usize) -> usize
-    ensures { λ r. ⌜ r ≡ strideOf c n ⌝ }
-{
-    if n == 0 {
+    if plane == 0 {
         c.luma_stride
     } else {
         c.chroma_stride
     }
 }
 
-fn plane_short(c: Call, n: usize, len: usize) -> bool
+fn plane_short(c: Call, plane: usize, len: usize) -> bool
     requires { ⌜ Shaped c ⌝ }
-    ensures { λ r. ⌜ r ≡ not (planeOk len (strideOf c n) (stored (c .width .0) (ss-hor c n)) (stored (c .height .0) (ss-ver c n))) ⌝ }
+    ensures { λ r. ⌜ r ≡ not (planeOk len (strideOf c plane) (stored (c .width .0) (ss-hor c plane)) (stored (c .height .0) (ss-ver c plane))) ⌝ }
 {
-    let width = stored_side(c.width, hor(c, n));
-    let height = stored_side(c.height, ver(c, n));
-    !plane_ok(len, stride_of(c, n), width, height)
+    let width = stored_side(c.width, plane_ss_hor(plane == 0, c.layout));
+    let height = stored_side(c.height, plane_ss_ver(plane == 0, c.layout));
+    !plane_ok(len, stride_of(c, plane), width, height)
 }
 
 // A byte is no sample above depth 8's maximum.
-fn plane_bad_8(c: Call, n: usize, s: &[u8]) -> bool
+fn plane_bad_8(c: Call, plane: usize, s: &[u8]) -> bool
     requires { ⌜ Shaped c × (c .depth ≡ 8) ⌝ }
-    ensures { λ r. ⌜ r ≡ planeBad c n (now (s .entry)) ⌝ }
+    ensures { λ r. ⌜ r ≡ planeBad c plane (now (s .entry)) ⌝ }
 {
-    plane_short(c, n, s.len())
+    plane_short(c, plane, s.len())
 }
 
 pub fn planes_bad_8(c: Call, luma: &[u8], u: &[u8], v: &[u8]) -> bool
@@ -172,29 +153,28 @@ pub fn planes_bad_8(c: Call, luma: &[u8], u: &[u8], v: &[u8]) -> bool
     bad | (plane_bad_8(c, 1, u) | plane_bad_8(c, 2, v))
 }
 
-fn plane_bad_16(c: Call, n: usize, s: &[u16]) -> bool
+fn plane_bad_16(c: Call, plane: usize, s: &[u16]) -> bool
     requires { ⌜ Shaped c × (c .depth < 16) ⌝ }
-    ensures { λ r. ⌜ r ≡ planeBad c n (now (s .entry)) ⌝ }
+    ensures { λ r. ⌜ r ≡ planeBad c plane (now (s .entry)) ⌝ }
 {
-    if plane_short(c, n, s.len()) {
+    if plane_short(c, plane, s.len()) {
         return true;
     }
     if !inside(c) {
         return false;
     }
-    let stride = stride_of(c, n);
+    let stride = stride_of(c, plane);
     let sb4 = superblock_units(c.superblock);
-    let pass = pass_of(c);
     scans::samples_high(
         s,
         stride,
         c.width,
         c.height,
-        hor(c, n),
-        ver(c, n),
+        plane_ss_hor(plane == 0, c.layout),
+        plane_ss_ver(plane == 0, c.layout),
         sb4,
         c.depth,
-        pass,
+        c.rowwise,
         c.row,
     )
 }
@@ -230,12 +210,12 @@ fn chroma_found(c: Call, masks: &[u16]) -> Both
     let w4 = luma_units(c.width);
     let h4 = luma_units(c.height);
     let sb4 = superblock_units(c.superblock);
-    let hor = ss_hor(c.layout);
-    let ver = ss_ver(c.layout);
+    let ss_hor = units::layout::ss_hor(c.layout);
+    let ss_ver = units::layout::ss_ver(c.layout);
     if c.rowwise {
-        return gap::chroma_rows(masks, w4, h4, hor, ver, sb4, c.row);
+        return gap::chroma_rows(masks, w4, h4, ss_hor, ss_ver, sb4, c.row);
     }
-    gap::chroma_columns(masks, w4, h4, hor, ver, sb4, c.row)
+    gap::chroma_columns(masks, w4, h4, ss_hor, ss_ver, sb4, c.row)
 }
 
 pub fn found(c: Call, masks: &[u16]) -> Both

@@ -37,9 +37,6 @@ proper t luma =
       luma-y = kind-0 luma (ssVer (t .layout));
     }
 
-pub kind-ss : (luma : Bool) (ss r : ℕ) → luma ≡ false → r ≡ ss → r ≡ cond luma 0 ss
-kind-ss luma ss r e p = rw e p
-
 -- ---- a start that passed the first test, and one inside the frame
 
 pub shaped : (t : Start) → shapeBad t ≡ false → Shaped t

@@ -1,5 +1,6 @@
 -- The contract of `correct_column` and `correct_row`.
---   columnOf, rowOf     the start of a call's arguments
+--   startOf             the start of these arguments
+--   columnOf, rowOf     that of a call
 --   CorrectAnswer       number and masks after a call
 --   Ready               what the work behind the number asks in a plane
 use mathlib.Core.Bool.{Bool, true, false, cond}
@@ -14,29 +15,23 @@ use Rattle.correct.specs.Start.{w4, h4, corrects, Shaped}
 use Rattle.correct.specs.Correct.{done}
 use Rattle.correct.specs.Tests.{unitsAlong, number}
 
-abbrev pub columnOf : ℕ → ℕ → ℕ → ℕ → ℕ → ℕ → Start
-columnOf width height layout superblock row start =
+abbrev pub startOf : Bool → ℕ → ℕ → ℕ → ℕ → ℕ → ℕ → Start
+startOf rowwise width height layout superblock row start =
     record {
       width = record { 0 = width };
       height = record { 0 = height };
       layout = layout;
       superblock = superblock;
-      rowwise = false;
+      rowwise = rowwise;
       row = row;
       start = start;
     }
 
+abbrev pub columnOf : ℕ → ℕ → ℕ → ℕ → ℕ → ℕ → Start
+columnOf = startOf false
+
 abbrev pub rowOf : ℕ → ℕ → ℕ → ℕ → ℕ → Start
-rowOf width height layout superblock row =
-    record {
-      width = record { 0 = width };
-      height = record { 0 = height };
-      layout = layout;
-      superblock = superblock;
-      rowwise = true;
-      row = row;
-      start = 0;
-    }
+rowOf width height layout superblock row = startOf true width height layout superblock row 0
 
 pub record CorrectAnswer (t : Start) (context context-uv : List ℕ) (r : ℕ) (before after : List ℕ) : Type 0 where
   pub code : r ≡ number t (length before) context context-uv

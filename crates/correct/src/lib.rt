@@ -12,7 +12,7 @@ use units::Sample;
 ghost use mathlib.Core.Path.{_≡_};
 ghost use lib.ListN.{length};
 ghost use Rattle.correct.specs.Correct.{planeDone};
-ghost use Rattle.correct.specs.Answer.{columnOf, rowOf, CorrectAnswer, Ready};
+ghost use Rattle.correct.specs.Answer.{startOf, columnOf, rowOf, CorrectAnswer, Ready};
 ghost use Rattle.correct.specs.Promises.{Promises};
 
 // The start of a tile: frame, pass, superblock row, and the superblock of the tile's first column, 0 in the row pass.
@@ -49,9 +49,30 @@ fn correct_plane(masks: &mut [u16], t: Start, luma: bool, context: &[u8])
     correct_line(masks, line(t, luma), context);
 }
 
-fn correct(masks: &mut [u16], t: Start, context: &[u8], context_uv: &[u8]) -> u32
-    ensures { λ r. ⌜ CorrectAnswer t (now (context .entry)) (now («context_uv» .entry)) r (now (masks .entry)) (now (masks .exit)) ⌝ }
+fn correct(
+    masks: &mut [u16],
+    rowwise: bool,
+    width: u32,
+    height: u32,
+    layout: u32,
+    superblock: u32,
+    row: u32,
+    start: u32,
+    context: &[u8],
+    context_uv: &[u8],
+) -> u32
+    ensures { λ r. ⌜ CorrectAnswer (startOf rowwise width height layout superblock row start) (now (context .entry)) (now («context_uv» .entry)) r
+        (now (masks .entry)) (now (masks .exit)) ⌝ }
 {
+    let t = Start {
+        width: Sample(width as usize),
+        height: Sample(height as usize),
+        layout: layout as usize,
+        superblock: superblock as usize,
+        rowwise,
+        row: row as usize,
+        start: start as usize,
+    };
     let n = number(t, masks.len(), context, context_uv);
     if n != 0 {
         return n;
@@ -75,16 +96,18 @@ pub fn correct_column(
 ) -> u32
     ensures { λ r. ⌜ CorrectAnswer (columnOf width height layout superblock row start) (now (left .entry)) (now («left_uv» .entry)) r (now (masks .entry)) (now (masks .exit)) ⌝ }
 {
-    let t = Start {
-        width: Sample(width as usize),
-        height: Sample(height as usize),
-        layout: layout as usize,
-        superblock: superblock as usize,
-        rowwise: false,
-        row: row as usize,
-        start: start as usize,
-    };
-    correct(masks, t, left, left_uv)
+    correct(
+        masks,
+        false,
+        width,
+        height,
+        layout,
+        superblock,
+        row,
+        start,
+        left,
+        left_uv,
+    )
 }
 
 // A tile row that begins at superblock row `row`; the contexts begin at the frame's first unit.
@@ -100,16 +123,18 @@ pub fn correct_row(
 ) -> u32
     ensures { λ r. ⌜ CorrectAnswer (rowOf width height layout superblock row) (now (above .entry)) (now («above_uv» .entry)) r (now (masks .entry)) (now (masks .exit)) ⌝ }
 {
-    let t = Start {
-        width: Sample(width as usize),
-        height: Sample(height as usize),
-        layout: layout as usize,
-        superblock: superblock as usize,
-        rowwise: true,
-        row: row as usize,
-        start: 0,
-    };
-    correct(masks, t, above, above_uv)
+    correct(
+        masks,
+        true,
+        width,
+        height,
+        layout,
+        superblock,
+        row,
+        0,
+        above,
+        above_uv,
+    )
 }
 
 // The theorems of specs/Promises.antt are proved.

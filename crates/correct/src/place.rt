@@ -7,24 +7,12 @@ use units::chroma_units;
 use units::frame::superblock_units;
 use units::frame::superblocks_along;
 use units::layout::has_chroma;
-use units::layout::ss_hor;
-use units::layout::ss_ver;
+use units::layout::plane_ss_hor;
+use units::layout::plane_ss_ver;
 use units::least;
 use units::luma_units;
 ghost use mathlib.Core.Path.{_≡_};
 ghost use Rattle.correct.specs.Start.{gridAt, begin, across, first, end, lineOf, inside, corrects, Shaped, Inside};
-
-fn hor(t: Start, luma: bool) -> usize
-    ensures { λ r. ⌜ r ≡ gridAt t luma .ss-hor ⌝ }
-{
-    if luma { 0 } else { ss_hor(t.layout) }
-}
-
-fn ver(t: Start, luma: bool) -> usize
-    ensures { λ r. ⌜ r ≡ gridAt t luma .ss-ver ⌝ }
-{
-    if luma { 0 } else { ss_ver(t.layout) }
-}
 
 fn begin(t: Start) -> usize
     ensures { λ r. ⌜ r ≡ begin t ⌝ }
@@ -38,9 +26,9 @@ fn across(t: Start, luma: bool) -> usize
 {
     let u = LumaUnit(begin(t) * superblock_units(t.superblock).0);
     if t.rowwise {
-        return chroma_unit(u, ver(t, luma)).0;
+        return chroma_unit(u, plane_ss_ver(luma, t.layout)).0;
     }
-    chroma_unit(u, hor(t, luma)).0
+    chroma_unit(u, plane_ss_hor(luma, t.layout)).0
 }
 
 fn first(t: Start, luma: bool) -> usize
@@ -51,7 +39,7 @@ fn first(t: Start, luma: bool) -> usize
         return 0;
     }
     let y = LumaUnit(t.row * superblock_units(t.superblock).0);
-    chroma_unit(y, ver(t, luma)).0
+    chroma_unit(y, plane_ss_ver(luma, t.layout)).0
 }
 
 fn end(t: Start, luma: bool) -> usize
@@ -59,10 +47,13 @@ fn end(t: Start, luma: bool) -> usize
     ensures { λ r. ⌜ r ≡ end t luma ⌝ }
 {
     if t.rowwise {
-        return chroma_units(luma_units(t.width), hor(t, luma)).0;
+        return chroma_units(luma_units(t.width), plane_ss_hor(luma, t.layout)).0;
     }
     let y = (t.row + 1) * superblock_units(t.superblock).0;
-    chroma_units(LumaUnit(least(luma_units(t.height).0, y)), ver(t, luma)).0
+    chroma_units(
+        LumaUnit(least(luma_units(t.height).0, y)),
+        plane_ss_ver(luma, t.layout),
+    ).0
 }
 
 pub fn line(t: Start, luma: bool) -> TileEdge
@@ -74,8 +65,8 @@ pub fn line(t: Start, luma: bool) -> TileEdge
     TileEdge {
         luma,
         rowwise: t.rowwise,
-        ss_hor: hor(t, luma),
-        ss_ver: ver(t, luma),
+        ss_hor: plane_ss_hor(luma, t.layout),
+        ss_ver: plane_ss_ver(luma, t.layout),
         w4: luma_units(t.width),
         h4: luma_units(t.height),
         across: across(t, luma),

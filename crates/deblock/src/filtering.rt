@@ -1,7 +1,6 @@
 // Columns and rows of one superblock row.
 ghost use mathlib.Core.Bool.{true, false};
-ghost use Rattle.checks.specs.Call.{lent};
-ghost use Rattle.apply.specs.Apply.{limits, three, callOf, FilterAnswer};
+ghost use Rattle.apply.specs.Apply.{callOf, Filters};
 
 #[no_mangle]
 pub extern "C" fn deblock_columns_8(
@@ -23,10 +22,9 @@ pub extern "C" fn deblock_columns_8(
     level_v: u32,
     row: u32,
 ) -> u32
-    ensures { λ r. ⌜ FilterAnswer (callOf false 8 «luma_stride» «chroma_stride» «level_stride» width height layout superblock «level_u» «level_v» row)
-        (limits (now (e .entry)) (now (i .entry)))
-        (lent (now (luma .entry)) (now (u .entry)) (now (v .entry)) (now (levels .entry)) (now (masks .entry))) r
-        (three (now (luma .exit)) (now (u .exit)) (now (v .exit))) ⌝ }
+    ensures { λ r. ⌜ Filters (callOf false 8 «luma_stride» «chroma_stride» «level_stride» width height layout superblock «level_u» «level_v» row)
+        (now (luma .entry)) (now (u .entry)) (now (v .entry)) (now (levels .entry)) (now (masks .entry)) (now (e .entry)) (now (i .entry)) r
+        (now (luma .exit)) (now (u .exit)) (now (v .exit)) ⌝ }
 {
     apply::columns_8(
         luma,
@@ -69,10 +67,9 @@ pub extern "C" fn deblock_rows_8(
     level_v: u32,
     row: u32,
 ) -> u32
-    ensures { λ r. ⌜ FilterAnswer (callOf true 8 «luma_stride» «chroma_stride» «level_stride» width height layout superblock «level_u» «level_v» row)
-        (limits (now (e .entry)) (now (i .entry)))
-        (lent (now (luma .entry)) (now (u .entry)) (now (v .entry)) (now (levels .entry)) (now (masks .entry))) r
-        (three (now (luma .exit)) (now (u .exit)) (now (v .exit))) ⌝ }
+    ensures { λ r. ⌜ Filters (callOf true 8 «luma_stride» «chroma_stride» «level_stride» width height layout superblock «level_u» «level_v» row)
+        (now (luma .entry)) (now (u .entry)) (now (v .entry)) (now (levels .entry)) (now (masks .entry)) (now (e .entry)) (now (i .entry)) r
+        (now (luma .exit)) (now (u .exit)) (now (v .exit)) ⌝ }
 {
     apply::rows_8(
         luma,
@@ -116,10 +113,9 @@ pub extern "C" fn deblock_columns_16(
     level_v: u32,
     row: u32,
 ) -> u32
-    ensures { λ r. ⌜ FilterAnswer (callOf false depth «luma_stride» «chroma_stride» «level_stride» width height layout superblock «level_u» «level_v» row)
-        (limits (now (e .entry)) (now (i .entry)))
-        (lent (now (luma .entry)) (now (u .entry)) (now (v .entry)) (now (levels .entry)) (now (masks .entry))) r
-        (three (now (luma .exit)) (now (u .exit)) (now (v .exit))) ⌝ }
+    ensures { λ r. ⌜ Filters (callOf false depth «luma_stride» «chroma_stride» «level_stride» width height layout superblock «level_u» «level_v» row)
+        (now (luma .entry)) (now (u .entry)) (now (v .entry)) (now (levels .entry)) (now (masks .entry)) (now (e .entry)) (now (i .entry)) r
+        (now (luma .exit)) (now (u .exit)) (now (v .exit)) ⌝ }
 {
     apply::columns_16(
         luma,
@@ -164,10 +160,9 @@ pub extern "C" fn deblock_rows_16(
     level_v: u32,
     row: u32,
 ) -> u32
-    ensures { λ r. ⌜ FilterAnswer (callOf true depth «luma_stride» «chroma_stride» «level_stride» width height layout superblock «level_u» «level_v» row)
-        (limits (now (e .entry)) (now (i .entry)))
-        (lent (now (luma .entry)) (now (u .entry)) (now (v .entry)) (now (levels .entry)) (now (masks .entry))) r
-        (three (now (luma .exit)) (now (u .exit)) (now (v .exit))) ⌝ }
+    ensures { λ r. ⌜ Filters (callOf true depth «luma_stride» «chroma_stride» «level_stride» width height layout superblock «level_u» «level_v» row)
+        (now (luma .entry)) (now (u .entry)) (now (v .entry)) (now (levels .entry)) (now (masks .entry)) (now (e .entry)) (now (i .entry)) r
+        (now (luma .exit)) (now (u .exit)) (now (v .exit)) ⌝ }
 {
     apply::rows_16(
         luma,

@@ -33,20 +33,22 @@ use Rattle.list_put.proofs.Writes.{wrote-none, wrote-one}
 -- ---- the plane
 
 module _ (p : Part) where
-  pub luma-hor : p .plane ≡ 0 → 0 ≡ gridAt p .ss-hor
-  luma-hor e = rw (eq-eqb (p .plane) 0 e) refl
-
-  pub luma-ver : p .plane ≡ 0 → 0 ≡ gridAt p .ss-ver
-  luma-ver e = rw (eq-eqb (p .plane) 0 e) refl
-
-  pub chroma-hor : (r : ℕ) → ¬ (p .plane ≡ 0) → r ≡ ssHor (p .layout) → r ≡ gridAt p .ss-hor
-  chroma-hor r n e = rw (ne-eqb (p .plane) 0 n) e
-
-  pub chroma-ver : (r : ℕ) → ¬ (p .plane ≡ 0) → r ≡ ssVer (p .layout) → r ≡ gridAt p .ss-ver
-  chroma-ver r n e = rw (ne-eqb (p .plane) 0 n) e
-
   abbrev areaOf : Bool → Grid
   areaOf b = cond b (lumaGrid (p .w4 .0) (p .h4 .0)) (chromaGrid (ssHor (p .layout)) (ssVer (p .layout)) (p .w4 .0) (p .h4 .0))
+
+  pub hor-is : {r : ℕ} → r ≡ cond (eqb (p .plane) 0) 0 (ssHor (p .layout)) → r ≡ gridAt p .ss-hor
+  hor-is e = e ∙ go (eqb (p .plane) 0)
+    where
+      go : (b : Bool) → cond b 0 (ssHor (p .layout)) ≡ areaOf b .ss-hor
+      go true = refl
+      go false = refl
+
+  pub ver-is : {r : ℕ} → r ≡ cond (eqb (p .plane) 0) 0 (ssVer (p .layout)) → r ≡ gridAt p .ss-ver
+  ver-is e = e ∙ go (eqb (p .plane) 0)
+    where
+      go : (b : Bool) → cond b 0 (ssVer (p .layout)) ≡ areaOf b .ss-ver
+      go true = refl
+      go false = refl
 
   grid-is : gridOf (eqb (p .plane) 0) (gridAt p .ss-hor) (gridAt p .ss-ver) (p .w4 .0) (p .h4 .0) ≡ gridAt p
   grid-is = go (eqb (p .plane) 0)

@@ -3,12 +3,12 @@ mod unit;
 
 use list_text::put_header;
 use list_text::put_total;
-use unit::hor;
 use unit::put_unit;
-use unit::ver;
 use units::LumaUnit;
 use units::chroma_units;
 use units::layout::has_chroma;
+use units::layout::plane_ss_hor;
+use units::layout::plane_ss_ver;
 ghost use mathlib.Core.Bool.{cond};
 ghost use mathlib.Core.Path.{_≡_};
 ghost use Prim.Native.Nat.{_≤_, _<_};
@@ -40,14 +40,14 @@ fn width(p: Part) -> usize
     requires { ⌜ p .w4 .0 ≤ 64 ⌝ }
     ensures { λ r. ⌜ r ≡ unitsOf (gridAt p) columns ⌝ }
 {
-    chroma_units(p.w4, hor(p)).0
+    chroma_units(p.w4, plane_ss_hor(p.plane == 0, p.layout)).0
 }
 
 fn height(p: Part) -> usize
     requires { ⌜ p .h4 .0 ≤ 64 ⌝ }
     ensures { λ r. ⌜ r ≡ unitsOf (gridAt p) rows ⌝ }
 {
-    chroma_units(p.h4, ver(p)).0
+    chroma_units(p.h4, plane_ss_ver(p.plane == 0, p.layout)).0
 }
 
 fn planes(layout: usize) -> usize

@@ -8,8 +8,8 @@ use edges::luma_class;
 use list_text::put_edge;
 use units::ChromaUnit;
 use units::LumaUnit;
-use units::layout::ss_hor;
-use units::layout::ss_ver;
+use units::layout::plane_ss_hor;
+use units::layout::plane_ss_ver;
 use units::memory::chroma_level_at;
 use units::memory::luma_level_at;
 ghost use mathlib.Core.Path.{_≡_};
@@ -23,18 +23,6 @@ ghost use Rattle.plane.specs.Line.{passOf};
 ghost use Rattle.edges.specs.Class.{classNo};
 ghost use Rattle.list_edges.specs.Listed.{area, edgesAt};
 ghost use Rattle.list_put.specs.Written.{gridAt, heldIn, Fits, Inside, Room, Wrote};
-
-pub fn hor(p: Part) -> usize
-    ensures { λ r. ⌜ r ≡ gridAt p .ss-hor ⌝ }
-{
-    if p.plane == 0 { 0 } else { ss_hor(p.layout) }
-}
-
-pub fn ver(p: Part) -> usize
-    ensures { λ r. ⌜ r ≡ gridAt p .ss-ver ⌝ }
-{
-    if p.plane == 0 { 0 } else { ss_ver(p.layout) }
-}
 
 fn across(p: Part, x: usize, y: usize) -> usize
     ensures { λ r. ⌜ r ≡ unit (passOf (p .rowwise)) x y .0 ⌝ }
@@ -52,10 +40,11 @@ fn bit_at(p: Part, x: usize, y: usize) -> usize
     requires { ⌜ Inside p x y ⌝ }
     ensures { λ r. ⌜ r ≡ edgeBit (gridAt p) (passOf (p .rowwise)) (unit (passOf (p .rowwise)) x y) 0 ⌝ }
 {
+    let luma = p.plane == 0;
     edge_bit(
-        p.plane == 0,
-        hor(p),
-        ver(p),
+        luma,
+        plane_ss_hor(luma, p.layout),
+        plane_ss_ver(luma, p.layout),
         p.w4,
         p.rowwise,
         across(p, x, y),

@@ -29,15 +29,15 @@ row-most : (ss sb4 : ℕ) → ss ≤ 1 → Superblock sb4 → chromaUnit ss sb4 
 row-most = by-shape (λ ss sb4. chromaUnit ss sb4 ≤ 32) (omega arith) (omega arith) (omega arith) (omega arith)
 
 -- luma is at ss 0
-pub levels-row : (len stride w4 h4 ss-hor ss-ver sb4 k width height sb : ℕ) → LevelsFit len stride w4 h4 sb4 k → ss-hor ≤ 1 → ss-ver ≤ 1
-    → width ≡ chromaUnits ss-hor w4 → height ≡ chromaUnits ss-ver h4 → sb ≡ chromaUnit ss-ver sb4 → LevelsRow len stride width height sb k
-levels-row len stride w4 h4 ss-hor ss-ver sb4 k width height sb f p q ew eh es =
+pub levels-row : (len level-stride w4 h4 ss-hor ss-ver sb4 k width height sb : ℕ) → LevelsFit len level-stride w4 h4 sb4 k → ss-hor ≤ 1 → ss-ver ≤ 1
+    → width ≡ chromaUnits ss-hor w4 → height ≡ chromaUnits ss-ver h4 → sb ≡ chromaUnit ss-ver sb4 → LevelsRow len level-stride width height sb k
+levels-row len level-stride w4 h4 ss-hor ss-ver sb4 k width height sb f p q ew eh es =
     let x = chroma-units-le w4 ss-hor p in
     let y = chroma-units-le h4 ss-ver q in
     record {
       right = omega (arith, f .width);
       some = omega (arith, f .some, f .width);
-      long = rw eh (omega (arith, f .long, mul-le-mul-right stride y, mul-comm stride h4));
+      long = rw eh (omega (arith, f .long, mul-le-mul-right level-stride y, mul-comm level-stride h4));
       down = rw (eh, es) (plane-row ss-ver h4 sb4 k q (f .row));
       most = omega (arith, f .row .most);
       few = rw es (row-most ss-ver sb4 q (f .row .size));

@@ -10,6 +10,7 @@ use lib.ListN.{getD}
 use Rattle.loops.specs.Any.{anyBelow}
 use Rattle.loops.proofs.Anys.{any-same}
 use Rattle.bits.proofs.Words.{above-orBelow, field-orBelow, or-same}
+use Rattle.plane.specs.Line.{Pass, passNo}
 use Rattle.units.specs.Memory.{levelAt}
 use Rattle.units.specs.Units.{chromaUnit, chromaUnits}
 use Rattle.scans.specs.Or.{fourAt, orUnits, orLevels}
@@ -24,30 +25,30 @@ module _ (ls : List ℕ) (h : (i : ℕ) → getD ls i 0 < 256) where
   byte-at at (suc (suc (suc zero))) l = omega (arith, h at, h (at + 1), h (at + 2), h (at + 3))
   byte-at at (suc (suc (suc (suc j)))) l = absurd (omega arith)
 
-  module _ (stride w j : ℕ) (l : j < 4) where
-    byte-level : (x y : ℕ) → fourAt ls (4 * (y * stride) + 4 * x) / 2 ^ (8 * j) % 2 ^ 8 ≡ getD ls (levelAt stride x y j) 0
+  module _ (level-stride w j : ℕ) (l : j < 4) where
+    byte-level : (x y : ℕ) → fourAt ls (4 * (y * level-stride) + 4 * x) / 2 ^ (8 * j) % 2 ^ 8 ≡ getD ls (levelAt level-stride x y j) 0
     unfolding levelAt
-    byte-level x y = byte-at (4 * (y * stride) + 4 * x) j l ∙ ap (λ (k : ℕ). getD ls k 0) (omega arith)
+    byte-level x y = byte-at (4 * (y * level-stride) + 4 * x) j l ∙ ap (λ (k : ℕ). getD ls k 0) (omega arith)
 
-    line-high : (y : ℕ) → ltb 63 (orUnits ls w (4 * (y * stride)) / 2 ^ (8 * j) % 2 ^ 8) ≡ anyBelow w (λ x. levelHigh ls stride j x y)
+    line-high : (y : ℕ) → ltb 63 (orUnits ls w (4 * (y * level-stride)) / 2 ^ (8 * j) % 2 ^ 8) ≡ anyBelow w (λ x. levelHigh ls level-stride j x y)
     line-high y =
         ap (ltb 63)
-        (field-orBelow (8 * j) 8 w (λ x. fourAt ls (4 * (y * stride) + 4 * x))
-        ∙ or-same w _ (λ x. getD ls (levelAt stride x y j) 0) (λ x _. byte-level x y))
-        ∙ above-orBelow 6 w (λ x. getD ls (levelAt stride x y j) 0)
+        (field-orBelow (8 * j) 8 w (λ x. fourAt ls (4 * (y * level-stride) + 4 * x))
+        ∙ or-same w _ (λ x. getD ls (levelAt level-stride x y j) 0) (λ x _. byte-level x y))
+        ∙ above-orBelow 6 w (λ x. getD ls (levelAt level-stride x y j) 0)
 
-    pub levels-high : (height sb above k r : ℕ) → r ≡ orLevels ls stride w (k * sb - above) (min height ((k + 1) * sb) - (k * sb - above))
-        → ltb 63 (r / 2 ^ (8 * j) % 2 ^ 8) ≡ levelsHigh ls stride j w height sb above k
+    pub levels-high : (height sb above k r : ℕ) → r ≡ orLevels ls level-stride w (k * sb - above) (min height ((k + 1) * sb) - (k * sb - above))
+        → ltb 63 (r / 2 ^ (8 * j) % 2 ^ 8) ≡ levelsHigh ls level-stride j w height sb above k
     unfolding levelsHigh
     levels-high height sb above k r e =
         ap (λ (v : ℕ). ltb 63 (v / 2 ^ (8 * j) % 2 ^ 8)) e
-        ∙ ap (ltb 63) (field-orBelow (8 * j) 8 (min height ((k + 1) * sb) - (k * sb - above)) (λ i. orUnits ls w (4 * ((k * sb - above + i) * stride))))
-        ∙ above-orBelow 6 (min height ((k + 1) * sb) - (k * sb - above)) (λ i. orUnits ls w (4 * ((k * sb - above + i) * stride)) / 2 ^ (8 * j) % 2 ^ 8)
+        ∙ ap (ltb 63) (field-orBelow (8 * j) 8 (min height ((k + 1) * sb) - (k * sb - above)) (λ i. orUnits ls w (4 * ((k * sb - above + i) * level-stride))))
+        ∙ above-orBelow 6 (min height ((k + 1) * sb) - (k * sb - above)) (λ i. orUnits ls w (4 * ((k * sb - above + i) * level-stride)) / 2 ^ (8 * j) % 2 ^ 8)
         ∙ any-same (min height ((k + 1) * sb) - (k * sb - above)) _ _ (λ i _. line-high (k * sb - above + i))
 
-  pub chroma-levels : (stride w4 h4 ss-hor ss-ver sb4 pass k width height sb r : ℕ) (u v : Bool) → width ≡ chromaUnits ss-hor w4 → height ≡ chromaUnits ss-ver h4
-      → sb ≡ chromaUnit ss-ver sb4 → r ≡ orLevels ls stride width (k * sb - pass) (min height ((k + 1) * sb) - (k * sb - pass))
-      → u ≡ ltb 63 (r / 2 ^ (8 * 2) % 2 ^ 8) → v ≡ ltb 63 (r / 2 ^ (8 * 3) % 2 ^ 8) → (u || v) ≡ chromaLevelsHigh ls stride w4 h4 ss-hor ss-ver sb4 pass k
-  chroma-levels stride w4 h4 ss-hor ss-ver sb4 pass k width height sb r u v ew eh es e eu ev =
-      ap₂ _||_ (eu ∙ levels-high stride width 2 (omega arith) height sb pass k r e) (ev ∙ levels-high stride width 3 (omega arith) height sb pass k r e)
-      ∙ (λ i. levelsHigh ls stride 2 (ew i) (eh i) (es i) pass k || levelsHigh ls stride 3 (ew i) (eh i) (es i) pass k)
+  pub chroma-levels : (level-stride w4 h4 ss-hor ss-ver sb4 k above width height sb r : ℕ) (d : Pass) (u v : Bool) → above ≡ passNo d → width ≡ chromaUnits ss-hor w4
+      → height ≡ chromaUnits ss-ver h4 → sb ≡ chromaUnit ss-ver sb4 → r ≡ orLevels ls level-stride width (k * sb - above) (min height ((k + 1) * sb) - (k * sb - above))
+      → u ≡ ltb 63 (r / 2 ^ (8 * 2) % 2 ^ 8) → v ≡ ltb 63 (r / 2 ^ (8 * 3) % 2 ^ 8) → (u || v) ≡ chromaLevelsHigh ls level-stride w4 h4 ss-hor ss-ver sb4 d k
+  chroma-levels level-stride w4 h4 ss-hor ss-ver sb4 k above width height sb r d u v ea ew eh es e eu ev =
+      ap₂ _||_ (eu ∙ levels-high level-stride width 2 (omega arith) height sb above k r e) (ev ∙ levels-high level-stride width 3 (omega arith) height sb above k r e)
+      ∙ (λ i. levelsHigh ls level-stride 2 (ew i) (eh i) (es i) (ea i) k || levelsHigh ls level-stride 3 (ew i) (eh i) (es i) (ea i) k)

@@ -29,15 +29,15 @@ pub promises : Promises
 unfolding levelsHigh samplesHigh
 promises =
     record {
-      eight = λ ls stride area width height sb above k.
+      eight = λ ls level-stride area width height sb above k.
           reflects-as
           (record {
             only = λ t.
                 record { x = t .3 .0; y = t .0; right = t .3 .1; down = omega (arith, t .2); from = omega (arith, t .1); to = omega (arith, t .2); too-high = t .3 .2 };
             always = λ t. (t .y, omega (arith, t .from), omega (arith, t .to, t .down), (t .x, t .right, t .too-high));
           })
-          (reflects-area (k * sb - above) (min height ((k + 1) * sb)) width (λ x y. levelHigh ls stride area x y)
-          (λ x y. 63 < getD ls (levelAt stride x y area) 0) (λ x y. reflects-ltb 63 (getD ls (levelAt stride x y area) 0)));
+          (reflects-area (k * sb - above) (min height ((k + 1) * sb)) width (λ x y. levelHigh ls level-stride area x y)
+          (λ x y. 63 < getD ls (levelAt level-stride x y area) 0) (λ x y. reflects-ltb 63 (getD ls (levelAt level-stride x y area) 0)));
       nine = λ s stride max width sb above k.
           reflects-as
           (record {

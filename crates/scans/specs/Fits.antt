@@ -18,12 +18,12 @@ pub record SbRow (h4 sb4 k : ℕ) : Type 0 where
   pub down : k * sb4 < h4
   pub most : h4 ≤ 4096
 
-pub record LevelsFit (len stride w4 h4 sb4 k : ℕ) : Type 0 where
+pub record LevelsFit (len level-stride w4 h4 sb4 k : ℕ) : Type 0 where
   pub row : SbRow h4 sb4 k
   pub some : 0 < w4
   pub most : w4 ≤ 4096
-  pub width : w4 ≤ stride
-  pub long : 4 * stride * h4 ≤ len
+  pub width : w4 ≤ level-stride
+  pub long : 4 * level-stride * h4 ≤ len
 
 pub record SamplesFit (len stride width height ss-hor ss-ver sb4 k : ℕ) : Type 0 where
   pub row : SbRow (unitsOf height) sb4 k
@@ -32,10 +32,10 @@ pub record SamplesFit (len stride width height ss-hor ss-ver sb4 k : ℕ) : Type
   pub right : stored width ss-hor ≤ stride
   pub long : stride * stored height ss-ver ≤ len
 
-pub record LevelsRow (len stride width height sb k : ℕ) : Type 0 where
-  pub right : width ≤ stride
-  pub some : 0 < stride
-  pub long : 4 * (height * stride) ≤ len
+pub record LevelsRow (len level-stride width height sb k : ℕ) : Type 0 where
+  pub right : width ≤ level-stride
+  pub some : 0 < level-stride
+  pub long : 4 * (height * level-stride) ≤ len
   pub down : k * sb < height
   pub most : height ≤ 4096
   pub few : sb ≤ 32

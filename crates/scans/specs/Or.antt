@@ -17,7 +17,7 @@ abbrev pub orUnits : List ℕ → ℕ → ℕ → ℕ
 orUnits ls w at = orBelow w (λ x. fourAt ls (at + 4 * x))
 
 abbrev pub orLevels : List ℕ → ℕ → ℕ → ℕ → ℕ → ℕ
-orLevels ls stride w first n = orBelow n (λ i. orUnits ls w (4 * ((first + i) * stride)))
+orLevels ls level-stride w first n = orBelow n (λ i. orUnits ls w (4 * ((first + i) * level-stride)))
 
 unfoldable pub fourLines : List ℕ → ℕ → ℕ → ℕ → ℕ → ℕ → ℕ
 fourLines s a b c d x = bitOr (bitOr (bitOr (getD s (a + x) 0) (getD s (b + x) 0)) (getD s (c + x) 0)) (getD s (d + x) 0)

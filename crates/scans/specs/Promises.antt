@@ -9,14 +9,14 @@ use Rattle.loops.specs.Exactly.{Reflects}
 use Rattle.units.specs.Memory.{levelAt}
 use Rattle.scans.specs.Scan.{levelsHigh, samplesHigh}
 
-pub record LevelHigh (ls : List ℕ) (stride area width height sb above k : ℕ) : Type 0 where
+pub record LevelHigh (ls : List ℕ) (level-stride area width height sb above k : ℕ) : Type 0 where
   pub x : ℕ
   pub y : ℕ
   pub right : x < width
   pub down : y < height
   pub from : k * sb ≤ y + above
   pub to : y < (k + 1) * sb
-  pub too-high : 63 < getD ls (levelAt stride x y area) 0
+  pub too-high : 63 < getD ls (levelAt level-stride x y area) 0
 
 pub record SampleHigh (s : List ℕ) (stride max width sb above k : ℕ) : Type 0 where
   pub x : ℕ
@@ -27,7 +27,7 @@ pub record SampleHigh (s : List ℕ) (stride max width sb above k : ℕ) : Type 
   pub too-high : max < getD s (y * stride + x) 0
 
 pub record Promises : Type 0 where
-  pub eight : (ls : List ℕ) (stride area width height sb above k : ℕ)
-      → Reflects (levelsHigh ls stride area width height sb above k) (LevelHigh ls stride area width height sb above k)
+  pub eight : (ls : List ℕ) (level-stride area width height sb above k : ℕ)
+      → Reflects (levelsHigh ls level-stride area width height sb above k) (LevelHigh ls level-stride area width height sb above k)
   pub nine : (s : List ℕ) (stride max width sb above k : ℕ)
       → Reflects (samplesHigh s stride max width sb above k) (SampleHigh s stride max width sb above k)

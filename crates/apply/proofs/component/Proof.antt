@@ -3,11 +3,11 @@ use borrow.Author.Needs.{needs}
 use Rattle.apply.proofs.component.Statement.{statement}
 use Rattle.apply.proofs.component.Tie as tie
 
-hor-requires : tie.Need-hor-requires
-hor-requires c κs = search needs
+plane-ss-hor-requires : tie.Need-plane-ss-hor-requires
+plane-ss-hor-requires c κs = search needs
 
-ver-requires : tie.Need-ver-requires
-ver-requires c κs = search needs
+plane-ss-ver-requires : tie.Need-plane-ss-ver-requires
+plane-ss-ver-requires c κs = search needs
 
 luma-units-requires : tie.Need-luma-units-requires
 luma-units-requires c κs = c .before .before .pre .width .1
@@ -25,9 +25,9 @@ returns : tie.Need-returns
 returns c =
     let a = c .before .before .before .before .before .before .args in
     (λ q. record {
-      plane = a .n;
-      «ss_hor» = c .before .before .before .before .before .hor .ensures q;
-      «ss_ver» = c .before .before .before .before .ver .ensures q;
+      plane = a .plane;
+      «ss_hor» = c .before .before .before .before .before .plane-ss-hor .ensures q;
+      «ss_ver» = c .before .before .before .before .plane-ss-ver .ensures q;
       w4 = record { 0 = c .before .before .before .luma-units .ensures q };
       h4 = record { 0 = c .before .before .luma-units2 .ensures q };
       sb4 = record { 0 = c .before .superblock-units .ensures q };
@@ -38,11 +38,4 @@ returns c =
 pub component-spec : {M : Type 1} → statement M
 component-spec =
     tie.close
-    (tie.spec
-    hor-requires
-    ver-requires
-    luma-units-requires
-    luma-units-requires-2
-    superblock-units-requires
-    stride-of-requires
-    returns)
+    (tie.spec plane-ss-hor-requires plane-ss-ver-requires luma-units-requires luma-units-requires-2 superblock-units-requires stride-of-requires returns)

@@ -20,8 +20,8 @@ plane-8-requires c κs =
     let a = b .args in
     let r = b .pre .1 in
     rw (c .component .ensures) (
-      subst (λ (d : ℕ). Stored (componentOf (a .c) (a .n)) (tables d (now (a .levels)) (now (a .masks)) (now (a .e)) (now (a .i))) (length (now (a .s)))) (b .pre .0) (r .stored),
-      subst (λ (d : ℕ). Fit (componentOf (a .c) (a .n)) (tables d (now (a .levels)) (now (a .masks)) (now (a .e)) (now (a .i))) (passOf (a .c .rowwise)) (a .c .row)) (b .pre .0) (r .fit),
+      subst (λ (d : ℕ). Stored (componentOf (a .c) (a .plane)) (tables d (now (a .levels)) (now (a .masks)) (now (a .e)) (now (a .i))) (length (now (a .s)))) (b .pre .0) (r .stored),
+      subst (λ (d : ℕ). Fit (componentOf (a .c) (a .plane)) (tables d (now (a .levels)) (now (a .masks)) (now (a .e)) (now (a .i))) (passOf (a .c .rowwise)) (a .c .row)) (b .pre .0) (r .fit),
     )
 
 same-length : tie.Need-same-length

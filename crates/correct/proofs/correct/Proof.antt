@@ -7,7 +7,7 @@ use borrow.Author.Tests.{ne-eqb}
 use borrow.Author.Needs.{needs}
 use Rattle.correct.proofs.Corrected.{ready-luma, ready-chroma}
 use Rattle.correct.specs.Correct.{planeDone}
-use Rattle.correct.specs.Answer.{Ready}
+use Rattle.correct.specs.Answer.{startOf, Ready}
 use Rattle.correct.proofs.correct.Statement.{statement}
 use Rattle.correct.proofs.correct.Tie as tie
 
@@ -19,22 +19,27 @@ returns c = record { code = c .before .number .ensures; masks = rw (ne-eqb (c .b
 
 correct-plane-requires : tie.Need-correct-plane-requires
 correct-plane-requires c κs =
-    ready-luma (c .before .before .before .before .before .before .args .t) _ (now (c .before .before .before .before .before .before .args .context))
-    (now (c .before .before .before .before .before .before .args .context-uv)) (sym (c .before .before .number .ensures) ∙ c .before .if1 .left)
+    let a = c .before .before .before .before .before .before .args in
+    ready-luma (startOf (a .rowwise) (a .width) (a .height) (a .layout) (a .superblock) (a .row) (a .start)) _ (now (a .context)) (now (a .context-uv))
+    (sym (c .before .before .number .ensures) ∙ c .before .if1 .left)
 
 correct-plane-requires-2 : tie.Need-correct-plane-requires-2
-correct-plane-requires-2 c κs = let a = c .before .before .before .before .before .before .before .before .before .before .args in
-    subst (λ n. Ready (a .t) false n (length (now (a .context-uv)))) (sym (c .before .before .before .correct-plane .kept .0))
-    (ready-chroma (a .t) _ (now (a .context)) (now (a .context-uv)) (sym (c .before .before .before .before .before .before .number .ensures) ∙ c .before .before .before .before .before .if1 .left))
+correct-plane-requires-2 c κs =
+    let a = c .before .before .before .before .before .before .before .before .before .before .args in
+    let t = startOf (a .rowwise) (a .width) (a .height) (a .layout) (a .superblock) (a .row) (a .start) in
+    subst (λ n. Ready t false n (length (now (a .context-uv)))) (sym (c .before .before .before .correct-plane .kept .0))
+    (ready-chroma t _ (now (a .context)) (now (a .context-uv)) (sym (c .before .before .before .before .before .before .number .ensures) ∙ c .before .before .before .before .before .if1 .left))
 
 same-length : tie.Need-same-length
 same-length c = search needs
 
 returns-2 : tie.Need-returns-2
-returns-2 c = let a = c .before .before .before .before .before .before .before .before .before .before .before .before .before .args in
+returns-2 c =
+    let a = c .before .before .before .before .before .before .before .before .before .before .before .before .before .args in
+    let t = startOf (a .rowwise) (a .width) (a .height) (a .layout) (a .superblock) (a .row) (a .start) in
     record {
       code = sym (c .before .before .before .before .before .before .before .before .if1 .left) ∙ c .before .before .before .before .before .before .before .before .before .number .ensures;
-      masks = c .before .before .correct-plane2 .ensures ∙ ap (planeDone (a .t) false (now (a .context-uv))) (c .before .before .before .before .before .before .correct-plane .ensures);
+      masks = c .before .before .correct-plane2 .ensures ∙ ap (planeDone t false (now (a .context-uv))) (c .before .before .before .before .before .before .correct-plane .ensures);
     }
 
 pub correct-spec : {M : Type 1} → statement M

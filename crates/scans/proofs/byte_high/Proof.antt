@@ -1,4 +1,4 @@
--- `byte_high` meets its contract: the byte of a area is compared with 63.
+-- `byte_high` meets its contract: the byte of an area is compared with 63.
 use mathlib.Core.Path.{refl}
 use borrow.Author.Needs.{needs}
 use Rattle.scans.proofs.byte_high.Statement.{statement}

@@ -10,10 +10,10 @@ use Rattle.scans.proofs.or_levels.Statement.{statement}
 use Rattle.scans.proofs.or_levels.Tie as tie
 
 abbrev Inv-loop : tie.InvT-loop
-Inv-loop levels stride w first n acc₀ i₀ acc i = (i ≤ n) × (acc ≡ orLevels levels stride w first i)
+Inv-loop levels level-stride w first n acc₀ i₀ acc i = (i ≤ n) × (acc ≡ orLevels levels level-stride w first i)
 
 abbrev μ-loop : tie.MeasureT-loop
-μ-loop levels stride w first n acc₀ i₀ acc i = n - i
+μ-loop levels level-stride w first n acc₀ i₀ acc i = n - i
 
 loop-holds : tie.Need-loop-holds Inv-loop μ-loop
 loop-holds c = (omega arith, or-none _)
@@ -22,7 +22,7 @@ add-or-units : tie.Need-add-or-units Inv-loop μ-loop
 add-or-units c =
     omega (
       arith,
-      few-lines (c .before .before .before .args .first + c .before .before .before .args .n) (c .before .before .before .args .stride)
+      few-lines (c .before .before .before .args .first + c .before .before .before .args .n) (c .before .before .before .args .level-stride)
           (omega arith),
     )
 
@@ -31,7 +31,7 @@ mul-or-units c =
     omega (
       arith,
       lines-in (c .before .before .before .args .first + c .before .loop .i) 1
-          (c .before .before .before .args .first + c .before .before .before .args .n) (c .before .before .before .args .stride) (omega arith),
+          (c .before .before .before .args .first + c .before .before .before .args .n) (c .before .before .before .args .level-stride) (omega arith),
     )
 
 mul-or-units-2 : tie.Need-mul-or-units-2 Inv-loop μ-loop
@@ -39,7 +39,7 @@ mul-or-units-2 c =
     omega (
       arith,
       lines-in (c .before .before .before .args .first + c .before .loop .i) 1
-          (c .before .before .before .args .first + c .before .before .before .args .n) (c .before .before .before .args .stride) (omega arith),
+          (c .before .before .before .args .first + c .before .before .before .args .n) (c .before .before .before .args .level-stride) (omega arith),
     )
 
 or-units-requires : tie.Need-or-units-requires Inv-loop μ-loop
@@ -47,7 +47,7 @@ or-units-requires c κs =
     omega (
       arith,
       lines-in (c .before .before .before .args .first + c .before .loop .i) 1
-          (c .before .before .before .args .first + c .before .before .before .args .n) (c .before .before .before .args .stride) (omega arith),
+          (c .before .before .before .args .first + c .before .before .before .args .n) (c .before .before .before .args .level-stride) (omega arith),
     )
 
 add-i : tie.Need-add-i Inv-loop μ-loop

@@ -1,4 +1,4 @@
--- `promised` meets its contract: the promises are proved in Told.
+-- `promised` meets its contract: the promises are proved in NumbersMean.
 use Rattle.scans.proofs.NumbersMean.{promises}
 use Rattle.scans.proofs.promised.Statement.{statement}
 use Rattle.scans.proofs.promised.Tie as tie

@@ -28,7 +28,7 @@ or-levels-requires : tie.Need-or-levels-requires
 or-levels-requires c κs =
     let a = c .before .before .before .args in
     let p = c .before .before .before .pre in (
-      row-cells (a .k) (a .sb) (a .above) _ (c .before .over .ensures) (a .height) _ (a .stride) _ (c .least .ensures) (p .down) (p .long),
+      row-cells (a .k) (a .sb) (a .above) _ (c .before .over .ensures) (a .height) _ (a .level-stride) _ (c .least .ensures) (p .down) (p .long),
       p .right,
       p
           .some,
@@ -38,7 +38,7 @@ returns : tie.Need-returns
 returns c =
     let a = c .before .before .before .before .args in
     c .or-levels .ensures
-    ∙ (λ i. orLevels (a .levels .now) (a .stride) (a .width) (c .before .before .over .ensures i)
+    ∙ (λ i. orLevels (a .levels .now) (a .level-stride) (a .width) (c .before .before .over .ensures i)
     (row-count (a .k) (a .sb) (a .above) _ (c .before .before .over .ensures) (a .height) _ (c .before .least .ensures) i))
 
 pub row-levels-spec : {M : Type 1} → statement M

@@ -3,6 +3,7 @@ use mathlib.Core.Path.{_∙_}
 use Prim.Native.Nat.{_-_, _*_, _^_}
 use native.Mathlib.Omega.{arith}
 use borrow.Author.Needs.{needs}
+use Rattle.plane.specs.Line.{passOf, passNo}
 use Rattle.scans.specs.Scan.{samplesHigh}
 use Rattle.scans.proofs.Samples.{samples-high}
 use Rattle.scans.proofs.Frames.{samples-row}
@@ -18,9 +19,8 @@ chroma-unit-requires c κs = search needs
 row-samples-requires : tie.Need-row-samples-requires
 row-samples-requires c κs =
     let a = c .before .before .before .args in
-    let f = samples-row _ _ (a .width .0) (a .height .0) (a .ss-hor) (a .ss-ver) (a .sb4 .0) _ _ _ (c .before .before .before .pre .0) (omega arith)
-    (omega arith) (c .before .stored-side .ensures) (c .chroma-unit .ensures) in
-    (f .0, f .1, f .2, omega arith)
+    samples-row _ _ (a .width .0) (a .height .0) (a .ss-hor) (a .ss-ver) (a .sb4 .0) _ _ _ (c .before .before .before .pre .0) (omega arith)
+    (omega arith) (c .before .stored-side .ensures) (c .chroma-unit .ensures)
 
 cast-result : tie.Need-cast-result
 cast-result c = search needs
@@ -31,9 +31,9 @@ shr-result c = search needs
 returns : tie.Need-returns
 returns c =
     let a = c .before .before .before .before .args in
-    samples-high (a .s .now) (a .stride) _ (a .depth) _ (a .pass) (a .k) _ (c .row-samples .ensures)
+    samples-high (a .s .now) (a .stride) _ (a .depth) _ (passNo (passOf (a .rowwise))) (a .k) _ (c .row-samples .ensures)
     ∙ (λ i. samplesHigh (a .s .now) (a .stride) (2 ^ a .depth - 1) (c .before .before .stored-side .ensures i) (c .before .chroma-unit .ensures i)
-    (8 * a .pass) (a .k))
+    (8 * passNo (passOf (a .rowwise))) (a .k))
 
 pub samples-high-spec : {M : Type 1} → statement M
 samples-high-spec =

@@ -1,6 +1,6 @@
 -- `chroma_found` meets its contract: the walk of its pass, over what the numbers before it leave.
 use borrow.Author.Needs.{needs}
-use Rattle.checks.proofs.TestsPassed.{masks-fit, plane-ss-hor-le, plane-ss-ver-le}
+use Rattle.checks.proofs.TestsPassed.{masks-fit, proper}
 use Rattle.checks.proofs.faults.chroma_found.Statement.{statement}
 use Rattle.checks.proofs.faults.chroma_found.Tie as tie
 
@@ -28,8 +28,8 @@ chroma-rows-requires c κs =
         c .before .before .before .before .luma-units2 .ensures,
         c .before .before .before .superblock-units .ensures,
       ) (masks-fit a _ _ (p .0) (p .1) (p .2 .1)),
-      rw (c .before .before .ss-hor .ensures) (plane-ss-hor-le a 1),
-      rw (c .before .ss-ver .ensures) (plane-ss-ver-le a 1),
+      rw (c .before .before .ss-hor .ensures) (proper a 1 .ss-hor-le),
+      rw (c .before .ss-ver .ensures) (proper a 1 .ss-ver-le),
     )
 
 returns : tie.Need-returns
@@ -52,8 +52,8 @@ chroma-columns-requires c κs =
         c .before .before .before .before .luma-units2 .ensures,
         c .before .before .before .superblock-units .ensures,
       ) (masks-fit a _ _ (p .0) (p .1) (p .2 .1)),
-      rw (c .before .before .ss-hor .ensures) (plane-ss-hor-le a 1),
-      rw (c .before .ss-ver .ensures) (plane-ss-ver-le a 1),
+      rw (c .before .before .ss-hor .ensures) (proper a 1 .ss-hor-le),
+      rw (c .before .ss-ver .ensures) (proper a 1 .ss-ver-le),
     )
 
 returns-2 : tie.Need-returns-2

@@ -1,29 +1,29 @@
 -- `plane_short` meets its contract: its calls are the definition's test.
 use mathlib.Core.Path.{refl}
 use borrow.Author.Needs.{needs}
-use Rattle.checks.proofs.TestsPassed.{plane-ss-hor-le, plane-ss-ver-le, stored-some}
+use Rattle.checks.proofs.TestsPassed.{proper, stored-some}
 use Rattle.checks.proofs.faults.plane_short.Statement.{statement}
 use Rattle.checks.proofs.faults.plane_short.Tie as tie
 
-hor-requires : tie.Need-hor-requires
-hor-requires c κs = search needs
+plane-ss-hor-requires : tie.Need-plane-ss-hor-requires
+plane-ss-hor-requires c κs = search needs
 
 stored-side-requires : tie.Need-stored-side-requires
-stored-side-requires c κs = (c .before .pre .width .1, rw (c .hor .ensures) (plane-ss-hor-le (c .before .args .c) (c .before .args .n)))
+stored-side-requires c κs = (c .before .pre .width .1, rw (c .plane-ss-hor .ensures) (proper (c .before .args .c) (c .before .args .plane) .ss-hor-le))
 
-ver-requires : tie.Need-ver-requires
-ver-requires c κs = search needs
+plane-ss-ver-requires : tie.Need-plane-ss-ver-requires
+plane-ss-ver-requires c κs = search needs
 
 stored-side-requires-2 : tie.Need-stored-side-requires-2
-stored-side-requires-2 c κs = (c .before .before .before .pre .height .1, rw (c .ver .ensures) (plane-ss-ver-le (c .before .before .before .args .c) (c .before .before .before .args .n)))
+stored-side-requires-2 c κs = (c .before .before .before .pre .height .1, rw (c .plane-ss-ver .ensures) (proper (c .before .before .before .args .c) (c .before .before .before .args .plane) .ss-ver-le))
 
 stride-of-requires : tie.Need-stride-of-requires
 stride-of-requires c κs = search needs
 
 plane-ok-requires : tie.Need-plane-ok-requires
 plane-ok-requires c κs =
-    rw (c .before .stored-side2 .ensures, c .before .before .ver .ensures)
-    (stored-some (c .before .before .before .before .before .args .c) (c .before .before .before .before .before .args .n) (c .before .before .before .before .before .pre))
+    rw (c .before .stored-side2 .ensures, c .before .before .plane-ss-ver .ensures)
+    (stored-some (c .before .before .before .before .before .args .c) (c .before .before .before .before .before .args .plane) (c .before .before .before .before .before .pre))
 
 returns : tie.Need-returns
 returns c =
@@ -32,18 +32,11 @@ returns c =
       c .before .stride-of .ensures,
       c .before .before .before .before .stored-side .ensures,
       c .before .before .stored-side2 .ensures,
-      c .before .before .before .before .before .hor .ensures,
-      c .before .before .before .ver .ensures,
+      c .before .before .before .before .before .plane-ss-hor .ensures,
+      c .before .before .before .plane-ss-ver .ensures,
     ) refl
 
 pub plane-short-spec : {M : Type 1} → statement M
 plane-short-spec =
     tie.close
-    (tie.spec
-    hor-requires
-    stored-side-requires
-    ver-requires
-    stored-side-requires-2
-    stride-of-requires
-    plane-ok-requires
-    returns)
+    (tie.spec plane-ss-hor-requires stored-side-requires plane-ss-ver-requires stored-side-requires-2 stride-of-requires plane-ok-requires returns)

@@ -21,30 +21,30 @@ mul-t6 c =
           (begin-small (c .before .before .before .args .t) (c .before .before .before .args .luma) (c .before .before .before .pre)),
     )
 
-ver-requires : tie.Need-ver-requires
-ver-requires c κs = search needs
+plane-ss-ver-requires : tie.Need-plane-ss-ver-requires
+plane-ss-ver-requires c κs = search needs
 
 chroma-unit-requires : tie.Need-chroma-unit-requires
-chroma-unit-requires c κs = omega (arith, c .ver .ensures, proper (c .before .before .before .before .before .args .t) (c .before .before .before .before .before .args .luma) .ss-ver-le)
+chroma-unit-requires c κs = omega (arith, c .plane-ss-ver .ensures, proper (c .before .before .before .before .before .args .t) (c .before .before .before .before .before .args .luma) .ss-ver-le)
 
 returns : tie.Need-returns
 returns c =
     across-is (c .before .before .before .before .before .before .args .t) (c .before .before .before .before .before .before .args .luma) _ _ _ _
     (across-row (c .before .before .before .before .before .before .args .t) (c .before .before .before .before .before .before .args .luma) _
-    (c .before .before .if1 .taken) (c .before .ver .ensures)) (c .before .before .before .before .before .begin .ensures)
+    (c .before .before .if1 .taken) (c .before .plane-ss-ver .ensures)) (c .before .before .before .before .before .begin .ensures)
     (c .before .before .before .before .superblock-units .ensures) (c .chroma-unit .ensures)
 
-hor-requires : tie.Need-hor-requires
-hor-requires c κs = search needs
+plane-ss-hor-requires : tie.Need-plane-ss-hor-requires
+plane-ss-hor-requires c κs = search needs
 
 chroma-unit-requires-2 : tie.Need-chroma-unit-requires-2
-chroma-unit-requires-2 c κs = omega (arith, c .hor .ensures, proper (c .before .before .before .before .before .args .t) (c .before .before .before .before .before .args .luma) .ss-hor-le)
+chroma-unit-requires-2 c κs = omega (arith, c .plane-ss-hor .ensures, proper (c .before .before .before .before .before .args .t) (c .before .before .before .before .before .args .luma) .ss-hor-le)
 
 returns-2 : tie.Need-returns-2
 returns-2 c =
     across-is (c .before .before .before .before .before .before .args .t) (c .before .before .before .before .before .before .args .luma) _ _ _ _
     (across-column (c .before .before .before .before .before .before .args .t) (c .before .before .before .before .before .before .args .luma) _
-    (c .before .before .if1 .left) (c .before .hor .ensures)) (c .before .before .before .before .before .begin .ensures)
+    (c .before .before .if1 .left) (c .before .plane-ss-hor .ensures)) (c .before .before .before .before .before .begin .ensures)
     (c .before .before .before .before .superblock-units .ensures) (c .chroma-unit2 .ensures)
 
 pub across-spec : {M : Type 1} → statement M
@@ -54,9 +54,9 @@ across-spec =
     begin-requires
     superblock-units-requires
     mul-t6
-    ver-requires
+    plane-ss-ver-requires
     chroma-unit-requires
     returns
-    hor-requires
+    plane-ss-hor-requires
     chroma-unit-requires-2
     returns-2)

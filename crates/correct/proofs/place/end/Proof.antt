@@ -10,19 +10,19 @@ use Rattle.correct.proofs.place.end.Tie as tie
 luma-units-requires : tie.Need-luma-units-requires
 luma-units-requires c κs = search needs
 
-hor-requires : tie.Need-hor-requires
-hor-requires c κs = search needs
+plane-ss-hor-requires : tie.Need-plane-ss-hor-requires
+plane-ss-hor-requires c κs = search needs
 
 chroma-units-requires : tie.Need-chroma-units-requires
 chroma-units-requires c κs = (
   omega (arith, c .before .luma-units .ensures, c .before .before .before .pre .width),
-  omega (arith, c .hor .ensures, proper (c .before .before .before .args .t) (c .before .before .before .args .luma) .ss-hor-le),
+  omega (arith, c .plane-ss-hor .ensures, proper (c .before .before .before .args .t) (c .before .before .before .args .luma) .ss-hor-le),
 )
 
 returns : tie.Need-returns
 returns c =
     end-row (c .before .before .before .before .args .t) (c .before .before .before .before .args .luma) _ _ _ (c .before .before .before .if1 .taken)
-    (c .before .hor .ensures) (c .before .before .luma-units .ensures) (c .chroma-units .ensures)
+    (c .before .plane-ss-hor .ensures) (c .before .before .luma-units .ensures) (c .chroma-units .ensures)
 
 add-y : tie.Need-add-y
 add-y c = omega (arith, row-small (c .before .before .args .t) (c .before .before .args .luma) (c .before .before .pre))
@@ -44,15 +44,15 @@ luma-units-requires-2 c κs = search needs
 least-requires : tie.Need-least-requires
 least-requires c κs = search needs
 
-ver-requires : tie.Need-ver-requires
-ver-requires c κs = search needs
+plane-ss-ver-requires : tie.Need-plane-ss-ver-requires
+plane-ss-ver-requires c κs = search needs
 
 chroma-units-requires-2 : tie.Need-chroma-units-requires-2
 chroma-units-requires-2 c κs = (
   omega (arith, c .before .least .ensures, c .before .before .luma-units2 .ensures, c .before .before .before .before .before .before .before .pre .height),
   omega (
     arith,
-    c .ver .ensures,
+    c .plane-ss-ver .ensures,
     proper (c .before .before .before .before .before .before .before .args .t)
         (c .before .before .before .before .before .before .before .args .luma) .ss-ver-le,
   ),
@@ -62,7 +62,7 @@ returns-2 : tie.Need-returns-2
 returns-2 c =
     end-column (c .before .before .before .before .before .before .before .before .args .t)
     (c .before .before .before .before .before .before .before .before .args .luma) _ _ _ _ _ (c .before .before .before .before .before .before .before .if1 .left)
-    (c .before .ver .ensures) (c .before .before .before .luma-units2 .ensures) (c .before .before .before .before .before .superblock-units .ensures)
+    (c .before .plane-ss-ver .ensures) (c .before .before .before .luma-units2 .ensures) (c .before .before .before .before .before .superblock-units .ensures)
     (c .before .before .least .ensures) (c .chroma-units2 .ensures)
 
 pub end-spec : {M : Type 1} → statement M
@@ -70,7 +70,7 @@ end-spec =
     tie.close
     (tie.spec
     luma-units-requires
-    hor-requires
+    plane-ss-hor-requires
     chroma-units-requires
     returns
     add-y
@@ -78,6 +78,6 @@ end-spec =
     mul-y
     luma-units-requires-2
     least-requires
-    ver-requires
+    plane-ss-ver-requires
     chroma-units-requires-2
     returns-2)

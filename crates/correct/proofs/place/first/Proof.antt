@@ -22,16 +22,16 @@ mul-chroma-unit c =
       ap (λ s. c .before .before .before .before .args .t .row * s) (c .before .before .superblock-units .ensures),
     )
 
-ver-requires : tie.Need-ver-requires
-ver-requires c κs = search needs
+plane-ss-ver-requires : tie.Need-plane-ss-ver-requires
+plane-ss-ver-requires c κs = search needs
 
 chroma-unit-requires : tie.Need-chroma-unit-requires
-chroma-unit-requires c κs = omega (arith, c .ver .ensures, proper (c .before .before .before .before .before .args .t) (c .before .before .before .before .before .args .luma) .ss-ver-le)
+chroma-unit-requires c κs = omega (arith, c .plane-ss-ver .ensures, proper (c .before .before .before .before .before .args .t) (c .before .before .before .before .before .args .luma) .ss-ver-le)
 
 returns-2 : tie.Need-returns-2
 returns-2 c =
     first-column (c .before .before .before .before .before .before .args .t) (c .before .before .before .before .before .before .args .luma) _ _ _
-    (c .before .before .before .before .before .if1 .left) (c .before .ver .ensures) (c .before .before .before .before .superblock-units .ensures) (c .chroma-unit .ensures)
+    (c .before .before .before .before .before .if1 .left) (c .before .plane-ss-ver .ensures) (c .before .before .before .before .superblock-units .ensures) (c .chroma-unit .ensures)
 
 pub first-spec : {M : Type 1} → statement M
 first-spec =
@@ -40,6 +40,6 @@ first-spec =
     returns
     superblock-units-requires
     mul-chroma-unit
-    ver-requires
+    plane-ss-ver-requires
     chroma-unit-requires
     returns-2)

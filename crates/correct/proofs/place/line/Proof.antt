@@ -15,11 +15,11 @@ end-requires c κs = search needs
 sub-n : tie.Need-sub-n
 sub-n c = omega (arith, c .end .ensures, c .before .first .ensures, first-le (c .before .before .args .t) (c .before .before .args .luma) (c .before .before .pre))
 
-hor-requires : tie.Need-hor-requires
-hor-requires c κs = search needs
+plane-ss-hor-requires : tie.Need-plane-ss-hor-requires
+plane-ss-hor-requires c κs = search needs
 
-ver-requires : tie.Need-ver-requires
-ver-requires c κs = search needs
+plane-ss-ver-requires : tie.Need-plane-ss-ver-requires
+plane-ss-ver-requires c κs = search needs
 
 luma-units-requires : tie.Need-luma-units-requires
 luma-units-requires c κs = search needs
@@ -36,8 +36,8 @@ returns c =
       c .across .ensures,
       c .before .luma-units2 .ensures,
       c .before .before .luma-units .ensures,
-      c .before .before .before .ver .ensures,
-      c .before .before .before .before .hor .ensures,
+      c .before .before .before .plane-ss-ver .ensures,
+      c .before .before .before .before .plane-ss-hor .ensures,
       c .before .before .before .before .before .end .ensures,
       c .before .before .before .before .before .before .first .ensures,
     ) refl
@@ -49,8 +49,8 @@ line-spec =
     first-requires
     end-requires
     sub-n
-    hor-requires
-    ver-requires
+    plane-ss-hor-requires
+    plane-ss-ver-requires
     luma-units-requires
     luma-units-requires-2
     across-requires
