@@ -11,22 +11,22 @@ use Rattle.standard.specs.Sizes.{Tx_Wide, Tx_High}
 use Rattle.units.specs.Masks.{halfUnits}
 use Rattle.units.specs.Sizes.{chromaClass}
 use Rattle.mask_edges.specs.declared.edge.BlockPass.{BlockPass}
-use Rattle.mask_edges.specs.Folds.{bitIn, classes, stores, gridPass, gridMasks, cellPass, cellMasks, classIn, stepIn, passOf, Held, Told}
+use Rattle.mask_edges.specs.Folds.{bitIn, classes, stores, gridPass, gridMasks, cellPass, cellMasks, classIn, stepIn, passOver, Held, Told}
 
 -- a half holds 16 units, or 8
 pub halves : (ss : ℕ) → ss ≤ 1 → (0 < halfUnits ss) × (halfUnits ss ≤ 16)
 halves ss h = each-at 2 (λ s. (0 < halfUnits s) × (halfUnits s ≤ 16)) ((omega arith, omega arith), ((omega arith, omega arith), tt)) ss (omega arith)
 
-module _ (p : BlockPass) (chroma : Bool) (half pass unit place across along len : ℕ) (e : p ≡ passOf chroma half pass unit place across along) (hp : pass < 2)
+module _ (p : BlockPass) (luma : Bool) (half : ℕ) (rowwise : Bool) (unit place across along len : ℕ) (e : p ≡ passOver luma half rowwise unit place across along)
     (hh : (0 < half) × (half ≤ 16)) (hu : unit + across ≤ 32) (hq : place + along ≤ 2 * half) (hl : 640 ≤ len) where
   pub pass-held : Held p len
-  pass-held = rw e (record { pass = hp; half = hh; unit = hu; place = hq; words = hl })
+  pass-held = rw e (record { half = hh; unit = hu; place = hq; words = hl })
 
   pub cells-asked : (txa : List ℕ) (n : ℕ) → Told txa p → 0 < across → along ≤ n → Held p len × Told txa p × (0 < p .across) × (p .along ≤ n)
   cells-asked txa n ht ha hn = (pass-held, ht, rw e ha, rw e hn)
 
-  pub grid-asked : (step k n : ℕ) → k < classes chroma → 0 < across → 0 < step → along ≤ n
-      → Held p len × (k < classes (p .chroma)) × (0 < p .across) × (0 < step) × (p .along ≤ n)
+  pub grid-asked : (step k n : ℕ) → k < classes luma → 0 < across → 0 < step → along ≤ n
+      → Held p len × (k < classes (p .luma)) × (0 < p .across) × (0 < step) × (p .along ≤ n)
   grid-asked step k n hk ha hs hn = (pass-held, rw e hk, rw e ha, hs, rw e hn)
 
 pub grid-both : (c r c₀ r₀ : BlockPass) (class : ℕ → ℕ) (t w h kw kh : ℕ) (skip : Bool) (a l ms ms′ ms″ : List ℕ) → c ≡ c₀ → r ≡ r₀ → w ≡ Tx_Wide t → h ≡ Tx_High t

@@ -16,7 +16,7 @@ use Rattle.mask_edges.proofs.Contexts.{stores-here}
 
 -- a record that has been written to is as long as before
 pub held : (p : BlockPass) {n m : ℕ} → n ≡ m → Held p m → Held p n
-held p e h = record { pass = h .pass; half = h .half; unit = h .unit; place = h .place; words = rw e (h .words) }
+held p e h = record { half = h .half; unit = h .unit; place = h .place; words = rw e (h .words) }
 
 module _ (bit : ℕ → ℕ → ℕ → ℕ) where
   pub block-none : (class context : ℕ → ℕ) (ms : List ℕ) → ms ≡ blockEdge bit 0 class context ms

@@ -9,6 +9,8 @@ use native.Mathlib.Nat.{lt-of-lt-of-le}
 use native.Mathlib.Decide.{decLt}
 use lib.ListN.{length, getD}
 use borrow.Author.Tests.{lt-ltb, le-ltb}
+use Rattle.plane.specs.Line.{Pass}
+use Rattle.plane.specs.Line as line
 use Rattle.standard.specs.Sizes.{Tx_Wide, Tx_High}
 use Rattle.bits.specs.Mark.{Adds}
 use Rattle.bits.proofs.Marks.{adds-then}
@@ -43,42 +45,42 @@ recorded B bit ms g h G H =
     record { long = A .long ms refl; bits = A .bits ms refl }
 
 -- the bits of a block lie in its record
-fits : (chroma : Bool) (half pass unit place across along n : ℕ) → pass < 2 → half ≤ 16 → unit + across ≤ 32 → place + along ≤ 2 * half → 640 ≤ n
-    → (u k v : ℕ) → u < across → k < classes chroma → v < along → edgeBit chroma half pass (unit + u) k (place + v) / 16 < n
-fits chroma half pass unit place across along n hp hh hu hq hn u k v lu lk lv =
-    lt-of-lt-of-le (bit-in chroma half pass (unit + u) k (place + v) hp (omega arith) lk hh (omega arith)) hn
+fits : (luma : Bool) (half : ℕ) (d : Pass) (unit place across along n : ℕ) → half ≤ 16 → unit + across ≤ 32 → place + along ≤ 2 * half → 640 ≤ n
+    → (u k v : ℕ) → u < across → k < classes luma → v < along → edgeBit luma half d (unit + u) k (place + v) / 16 < n
+fits luma half d unit place across along n hh hu hq hn u k v lu lk lv =
+    lt-of-lt-of-le (bit-in luma half d (unit + u) k (place + v) (omega arith) lk hh (omega arith)) hn
 
 -- ---- the recorders
 
 -- both passes of a plane; ss 0 for luma
 abbrev pub bitsOf : Bool → ℕ → ℕ → ℕ → ℕ → ℕ → ℕ → ℕ
-bitsOf chroma ss-hor ss-ver zero = edgeBit chroma (halfUnits ss-ver) 0
-bitsOf chroma ss-hor ss-ver (suc pass) = edgeBit chroma (halfUnits ss-hor) 1
+bitsOf luma ss-hor ss-ver zero = edgeBit luma (halfUnits ss-ver) line.columns
+bitsOf luma ss-hor ss-ver (suc pass) = edgeBit luma (halfUnits ss-hor) line.rows
 
 module _ (by4 bx4 w4 h4 ss-hor ss-ver : ℕ) (a l ms : List ℕ) (r : Room by4 bx4 w4 h4 ss-hor ss-ver (length ms) (length a) (length l)) (sh : ss-hor ≤ 1) (sv : ss-ver ≤ 1) where
-  fits-columns : (chroma : Bool) (u k v : ℕ) → u < w4 → k < classes chroma → v < h4 → bitsOf chroma ss-hor ss-ver 0 (bx4 + u) k (by4 + v) / 16 < length ms
-  fits-columns chroma =
+  fits-columns : (luma : Bool) (u k v : ℕ) → u < w4 → k < classes luma → v < h4 → bitsOf luma ss-hor ss-ver 0 (bx4 + u) k (by4 + v) / 16 < length ms
+  fits-columns luma =
       let h = halves ss-hor sh in
-      fits chroma (halfUnits ss-ver) 0 bx4 by4 w4 h4 (length ms) (omega arith) (halves ss-ver sv .1) (omega (arith, r .width .1)) (r .height .1) (r .record-words)
+      fits luma (halfUnits ss-ver) line.columns bx4 by4 w4 h4 (length ms) (halves ss-ver sv .1) (omega (arith, r .width .1)) (r .height .1) (r .record-words)
 
-  fits-rows : (chroma : Bool) (u k v : ℕ) → u < h4 → k < classes chroma → v < w4 → bitsOf chroma ss-hor ss-ver 1 (by4 + u) k (bx4 + v) / 16 < length ms
-  fits-rows chroma =
+  fits-rows : (luma : Bool) (u k v : ℕ) → u < h4 → k < classes luma → v < w4 → bitsOf luma ss-hor ss-ver 1 (by4 + u) k (bx4 + v) / 16 < length ms
+  fits-rows luma =
       let h = halves ss-ver sv in
-      fits chroma (halfUnits ss-hor) 1 by4 bx4 h4 w4 (length ms) (omega arith) (halves ss-hor sh .1) (omega (arith, r .height .1)) (r .width .1) (r .record-words)
+      fits luma (halfUnits ss-hor) line.rows by4 bx4 h4 w4 (length ms) (halves ss-hor sh .1) (omega (arith, r .height .1)) (r .width .1) (r .record-words)
 
-  module _ (chroma : Bool) (class : ℕ → ℕ) (low : (n : ℕ) → class n < classes chroma) (skip : Bool) (t : ℕ) (c : t < 19) where
+  module _ (luma : Bool) (class : ℕ → ℕ) (low : (n : ℕ) → class n < classes luma) (skip : Bool) (t : ℕ) (c : t < 19) where
     unfoldable pub B : Block
     B = blockOf class (not skip) (λ _ _. t) by4 bx4 w4 h4 a l
 
-    pub one-recorded : Recorded B (bitsOf chroma ss-hor ss-ver) ms
-        (gridMasks (columnsOf chroma (halfUnits ss-ver) by4 bx4 w4 h4) (rowsOf chroma (halfUnits ss-hor) by4 bx4 w4 h4) class t skip a l ms)
+    pub one-recorded : Recorded B (bitsOf luma ss-hor ss-ver) ms
+        (gridMasks (columnsOf luma (halfUnits ss-ver) by4 bx4 w4 h4) (rowsOf luma (halfUnits ss-hor) by4 bx4 w4 h4) class t skip a l ms)
     unfolding gridMasks B
     one-recorded =
         let w = tx-rule t c in
-        recorded B (bitsOf chroma ss-hor ss-ver) ms _ _
-        (adds-grid (columns B) (bitsOf chroma ss-hor ss-ver 0) (length ms) (classes chroma) low (r .width .0) (fits-columns chroma) (Tx_Wide t) (λ _ _. refl)
+        recorded B (bitsOf luma ss-hor ss-ver) ms _ _
+        (adds-grid (columns B) (bitsOf luma ss-hor ss-ver 0) (length ms) (classes luma) low (r .width .0) (fits-columns luma) (Tx_Wide t) (λ _ _. refl)
         (w .width .low) skip refl)
-        (adds-grid (rows B) (bitsOf chroma ss-hor ss-ver 1) (length ms) (classes chroma) low (r .height .0) (fits-rows chroma) (Tx_High t) (λ _ _. refl)
+        (adds-grid (rows B) (bitsOf luma ss-hor ss-ver 1) (length ms) (classes luma) low (r .height .0) (fits-rows luma) (Tx_High t) (λ _ _. refl)
         (w .height .low) skip refl)
 
     one-contexts : Contexts B (stores w4 (λ _. class (Tx_High t)) a) (stores h4 (λ _. class (Tx_Wide t)) l)
@@ -94,23 +96,23 @@ module _ (by4 bx4 w4 h4 : ℕ) (skip : Bool) (t : ℕ) (tx-masks a l ms : List �
   unfoldable pub I : Block
   I = interBlock by4 bx4 w4 h4 skip t tx-masks a l
 
-  across : Reads (tables tx-masks t w4 h4) 0 (columns I)
+  across : Reads (tables tx-masks t w4 h4) line.columns (columns I)
   unfolding I
   across = tables-columns by4 bx4 w4 h4 t skip tx-masks a l c
 
-  down : Reads (tables tx-masks t w4 h4) 1 (rows I)
+  down : Reads (tables tx-masks t w4 h4) line.rows (rows I)
   unfolding I
   down = tables-rows by4 bx4 w4 h4 t skip tx-masks a l c
 
-  pub inter-recorded : Recorded I (bitsOf false 0 0) ms (interMasks by4 bx4 w4 h4 skip t tx-masks a l ms)
+  pub inter-recorded : Recorded I (bitsOf true 0 0) ms (interMasks by4 bx4 w4 h4 skip t tx-masks a l ms)
   unfolding cellMasks I
   inter-recorded =
-      recorded I (bitsOf false 0 0) ms _ _
-      (adds-cells (columns I) (bitsOf false 0 0 0) (length ms) 3 luma-low (r .width .0)
-      (fits-columns by4 bx4 w4 h4 0 0 a l ms r (omega arith) (omega arith) false) _ _
+      recorded I (bitsOf true 0 0) ms _ _
+      (adds-cells (columns I) (bitsOf true 0 0 0) (length ms) 3 luma-low (r .width .0)
+      (fits-columns by4 bx4 w4 h4 0 0 a l ms r (omega arith) (omega arith) true) _ _
       (across .tiles) (across .class) (across .step) skip refl)
-      (adds-cells (rows I) (bitsOf false 0 0 1) (length ms) 3 luma-low (r .height .0)
-      (fits-rows by4 bx4 w4 h4 0 0 a l ms r (omega arith) (omega arith) false) _ _
+      (adds-cells (rows I) (bitsOf true 0 0 1) (length ms) 3 luma-low (r .height .0)
+      (fits-rows by4 bx4 w4 h4 0 0 a l ms r (omega arith) (omega arith) true) _ _
       (down .tiles) (down .class) (down .step) skip refl)
 
   inter-contexts : Contexts I (stores w4 (lastRow tx-masks t w4 h4) a) (stores h4 (lastColumn tx-masks t w4 h4) l)
@@ -123,11 +125,11 @@ module _ (by4 bx4 w4 h4 : ℕ) (skip : Bool) (t : ℕ) (tx-masks a l ms : List �
       }
 
 -- the same bits by their names in document 01
-luma-bits : (B : Block) (ms ms′ : List ℕ) → Recorded B (bitsOf false 0 0) ms ms′ → Recorded B lumaBit ms ms′
+luma-bits : (B : Block) (ms ms′ : List ℕ) → Recorded B (bitsOf true 0 0) ms ms′ → Recorded B lumaBit ms ms′
 unfolding edgeBit lumaBit
 luma-bits B ms ms′ R = record { long = R .long; bits = R .bits }
 
-chroma-bits : (ss-hor ss-ver : ℕ) (B : Block) (ms ms′ : List ℕ) → Recorded B (bitsOf true ss-hor ss-ver) ms ms′ → Recorded B (chromaBits ss-hor ss-ver) ms ms′
+chroma-bits : (ss-hor ss-ver : ℕ) (B : Block) (ms ms′ : List ℕ) → Recorded B (bitsOf false ss-hor ss-ver) ms ms′ → Recorded B (chromaBits ss-hor ss-ver) ms ms′
 unfolding edgeBit chromaBit
 chroma-bits ss-hor ss-ver B ms ms′ R = record { long = R .long; bits = R .bits }
 
@@ -136,13 +138,13 @@ unfolding B I
 promises =
     record {
       intra = λ by4 bx4 w4 h4 t a l ms r c. (
-        luma-bits _ _ _ (one-recorded by4 bx4 w4 h4 0 0 a l ms r (omega arith) (omega arith) false lumaClass luma-low false t c),
-        one-contexts by4 bx4 w4 h4 0 0 a l ms r (omega arith) (omega arith) false lumaClass luma-low false t c,
+        luma-bits _ _ _ (one-recorded by4 bx4 w4 h4 0 0 a l ms r (omega arith) (omega arith) true lumaClass luma-low false t c),
+        one-contexts by4 bx4 w4 h4 0 0 a l ms r (omega arith) (omega arith) true lumaClass luma-low false t c,
       );
       inter = λ by4 bx4 w4 h4 skip t tx-masks a l ms r c.
           (luma-bits _ _ _ (inter-recorded by4 bx4 w4 h4 skip t tx-masks a l ms r c), inter-contexts by4 bx4 w4 h4 skip t tx-masks a l ms r c);
       chroma = λ by4 bx4 w4 h4 skip t ss-hor ss-ver a l ms r c sh sv. (
-        chroma-bits ss-hor ss-ver _ _ _ (one-recorded by4 bx4 w4 h4 ss-hor ss-ver a l ms r sh sv true chromaClass chroma-low skip t c),
-        one-contexts by4 bx4 w4 h4 ss-hor ss-ver a l ms r sh sv true chromaClass chroma-low skip t c,
+        chroma-bits ss-hor ss-ver _ _ _ (one-recorded by4 bx4 w4 h4 ss-hor ss-ver a l ms r sh sv false chromaClass chroma-low skip t c),
+        one-contexts by4 bx4 w4 h4 ss-hor ss-ver a l ms r sh sv false chromaClass chroma-low skip t c,
       );
     }

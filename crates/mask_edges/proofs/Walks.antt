@@ -7,16 +7,17 @@ use native.Mathlib.Omega.{arith}
 use borrow.Author.Tests.{lt-ltb, le-ltb}
 use Rattle.loops.proofs.Runs.{upTo-again}
 use Rattle.bits.specs.Mark.{mark}
+use Rattle.plane.specs.Line.{passOf}
 use Rattle.mask_edges.specs.Folds.{blockEdge, walk, lineEdges, cellPass, cellAt, Reach, more}
 
-pub cell-across : (pass what u v : ℕ) → pass ≡ 0 → (what * 32 + v) * 32 + u ≡ cellAt pass what u v
-unfolding cellAt
-cell-across pass what u v e = rw e refl
+module _ (rowwise : Bool) (what u v : ℕ) where
+  pub cell-across : rowwise ≡ false → (what * 32 + v) * 32 + u ≡ cellAt (passOf rowwise) what u v
+  unfolding cellAt
+  cell-across e = rw e refl
 
-pub cell-down : (pass what u v : ℕ) → (pass ≡ 0 → ⊥) → ((2 + what) * 32 + u) * 32 + v ≡ cellAt pass what u v
-unfolding cellAt
-cell-down zero what u v f = absurd (f refl)
-cell-down (suc pass) what u v f = refl
+  pub cell-down : rowwise ≡ true → ((2 + what) * 32 + u) * 32 + v ≡ cellAt (passOf rowwise) what u v
+  unfolding cellAt
+  cell-down e = rw e refl
 
 module _ (bit : ℕ → ℕ → ℕ → ℕ) (across : ℕ) (class step : ℕ → ℕ) (v : ℕ) where
   walk-end : (f x k : ℕ) (ms : List ℕ) → across ≤ x → walk bit across class step v f x k ms ≡ ms

@@ -21,7 +21,7 @@ use Rattle.decomp.specs.Cells.{Covers}
 use Rattle.decomp.specs.Split.{isSplit, txAt}
 use Rattle.mask_edges.specs.declared.edge.BlockPass.{BlockPass}
 use Rattle.mask_edges.specs.Recording.{Room, Sweep, classAt, edges}
-use Rattle.mask_edges.specs.Folds.{blockEdge, stepEdges, walk, lineEdges, stores, gridPass, cellPass, gridMasks, cellMasks, oneMasks, interMasks, lastRow, lastColumn, wholeBy}
+use Rattle.mask_edges.specs.Folds.{blockEdge, stepEdges, walk, lineEdges, stores, gridPass, cellPass, gridMasks, cellMasks, oneMasks, interMasks, lumaMasks, lastRow, lastColumn, aboveOf, leftOf, wholeBy}
 use Rattle.mask_edges.proofs.CellTables.{luma-low, tables-columns, tables-rows}
 use Rattle.mask_edges.proofs.Theorems.{bitsOf, B, I, one-recorded, inter-recorded}
 
@@ -112,7 +112,7 @@ module _ (t w4 h4 m x y : ℕ) (p : x < w4) (q : y < h4) where
       let j : y / Tx_High t ≡ 0 = div-eq-of-lt (omega (arith, leb-true h4 (Tx_High t) (d .1))) in
       rw (i, j) (not-true (hasBit m 0) (a .1))
 
-  none-split : wholeBy t w4 h4 (Tx_Wide t) (Tx_High t) m ≡ true → isSplit m t x y ≡ false
+  none-split : wholeBy true t w4 h4 (Tx_Wide t) (Tx_High t) m ≡ true → isSplit m t x y ≡ false
   unfolding isSplit
   none-split = either (eqb t 0) (eqb m 0) refl
     where
@@ -122,30 +122,37 @@ module _ (t w4 h4 m x y : ℕ) (p : x < w4) (q : y < h4) where
       either false true e g = rw (eqb-true m 0 e) (hasBit-nil (y / Tx_High t * 4 + x / Tx_Wide t))
       either false false e g = first-off g
 
--- by what the code has for the sides
-pub whole-at : (t w4 h4 w h m : ℕ) (r : Bool) → r ≡ wholeBy t w4 h4 w h m → w ≡ Tx_Wide t → h ≡ Tx_High t → r ≡ true
-    → wholeBy t w4 h4 (Tx_Wide t) (Tx_High t) m ≡ true
-whole-at t w4 h4 w h m r e ew eh s = sym (e ∙ rw (ew, eh) refl) ∙ s
+-- by what the code has for the sides; an intra block is whole
+module _ (inter : Bool) (t w4 h4 w h m : ℕ) (r : Bool) (e : r ≡ wholeBy inter t w4 h4 w h m) where
+  pub whole-at : w ≡ Tx_Wide t → h ≡ Tx_High t → r ≡ true → wholeBy inter t w4 h4 (Tx_Wide t) (Tx_High t) m ≡ true
+  whole-at ew eh s = sym (e ∙ rw (ew, eh) refl) ∙ s
 
-module _ (tm : List ℕ) (t w4 h4 : ℕ) (h : wholeBy t w4 h4 (Tx_Wide t) (Tx_High t) (getD tm 0 0) ≡ true) where
+  pub split-inter : r ≡ false → inter ≡ true
+  split-inter s = go inter e
+    where
+      go : (i : Bool) → r ≡ wholeBy i t w4 h4 w h m → i ≡ true
+      go true g = refl
+      go false g = absurd (false≢true (sym s ∙ g))
+
+module _ (tm : List ℕ) (t w4 h4 : ℕ) (h : wholeBy true t w4 h4 (Tx_Wide t) (Tx_High t) (getD tm 0 0) ≡ true) where
   unsplit : (x y : ℕ) → x < w4 → y < h4 → txAt tm t x y ≡ t
   unfolding txAt
   unsplit x y p q = rw (none-split t w4 h4 (getD tm 0 0) x y p q h) refl
 
   module _ (by4 bx4 : ℕ) (skip : Bool) (a l ms : List ℕ) (r : Room by4 bx4 w4 h4 0 0 (length ms) (length a) (length l)) (c : Covers t w4 h4) where
-    pub whole-masks : Words ms → oneMasks by4 bx4 w4 h4 skip t a l ms ≡ interMasks by4 bx4 w4 h4 skip t tm a l ms
+    whole-masks : Words ms → oneMasks by4 bx4 w4 h4 skip t a l ms ≡ interMasks by4 bx4 w4 h4 skip t tm a l ms
     unfolding B I
     whole-masks w =
-        let R = one-recorded by4 bx4 w4 h4 0 0 a l ms r (omega arith) (omega arith) false lumaClass luma-low skip t (c .code) in
+        let R = one-recorded by4 bx4 w4 h4 0 0 a l ms r (omega arith) (omega arith) true lumaClass luma-low skip t (c .code) in
         let S = inter-recorded by4 bx4 w4 h4 skip t tm a l ms r c in
         isSet-ext _ _ (R .long ∙ sym (S .long)) (words-grid _ _ lumaClass t skip a l ms w) (words-cells _ _ _ skip a l ms w)
         (λ x. R .bits x ∙ sym (S .bits x ∙ ap₂ (λ (p q : Bool). isSet ms x || (p || q))
         (edges-same bx4 by4 w4 h4 (not skip) lumaClass (λ y. getD l y 0) (λ u v. Tx_Wide (txAt tm t u v)) (λ _ _. Tx_Wide t)
-        (λ u v p q. ap Tx_Wide (unsplit u v p q)) (bitsOf false 0 0 0) x)
+        (λ u v p q. ap Tx_Wide (unsplit u v p q)) (bitsOf true 0 0 0) x)
         (edges-same by4 bx4 h4 w4 (not skip) lumaClass (λ y. getD a y 0) (λ u v. Tx_High (txAt tm t v u)) (λ _ _. Tx_High t)
-        (λ u v p q. ap Tx_High (unsplit v u q p)) (bitsOf false 0 0 1) x)))
+        (λ u v p q. ap Tx_High (unsplit v u q p)) (bitsOf true 0 0 1) x)))
 
-    pub whole-above : stores w4 (λ _. lumaClass (Tx_High t)) a ≡ stores w4 (lastRow tm t w4 h4) a
+    whole-above : stores w4 (λ _. lumaClass (Tx_High t)) a ≡ stores w4 (lastRow tm t w4 h4) a
     unfolding stores
     whole-above =
         upTo-same (λ v c. set c v (lumaClass (Tx_High t))) (λ v c. set c v (lastRow tm t w4 h4 v)) w4
@@ -153,10 +160,24 @@ module _ (tm : List ℕ) (t w4 h4 : ℕ) (h : wholeBy t w4 h4 (Tx_Wide t) (Tx_Hi
         ap (set s v) (sym (tables-rows by4 bx4 w4 h4 t skip tm a l c .class (h4 - 1) v e g
         ∙ ap (λ (k : ℕ). lumaClass (Tx_High k)) (unsplit v (h4 - 1) g e)))) a
 
-    pub whole-left : stores h4 (λ _. lumaClass (Tx_Wide t)) l ≡ stores h4 (lastColumn tm t w4 h4) l
+    whole-left : stores h4 (λ _. lumaClass (Tx_Wide t)) l ≡ stores h4 (lastColumn tm t w4 h4) l
     unfolding stores
     whole-left =
         upTo-same (λ v c. set c v (lumaClass (Tx_Wide t))) (λ v c. set c v (lastColumn tm t w4 h4 v)) h4
         (λ v g s. let e : w4 - 1 < w4 = omega (arith, r .width .0) in
         ap (set s v) (sym (tables-columns by4 bx4 w4 h4 t skip tm a l c .class (w4 - 1) v e g
         ∙ ap (λ (k : ℕ). lumaClass (Tx_Wide k)) (unsplit (w4 - 1) v e g)))) l
+
+-- ---- a luma block with nothing split
+
+module _ (tm : List ℕ) (t w4 h4 by4 bx4 : ℕ) (skip : Bool) (a l ms : List ℕ) (r : Room by4 bx4 w4 h4 0 0 (length ms) (length a) (length l)) (w : Words ms) where
+  pub whole-luma : (inter : Bool) → (inter ≡ true → Covers t w4 h4) → wholeBy inter t w4 h4 (Tx_Wide t) (Tx_High t) (getD tm 0 0) ≡ true
+      → (oneMasks by4 bx4 w4 h4 (inter && skip) t a l ms ≡ lumaMasks by4 bx4 w4 h4 inter skip t tm a l ms)
+      × (stores w4 (λ _. lumaClass (Tx_High t)) a ≡ stores w4 (aboveOf inter tm t w4 h4) a)
+      × (stores h4 (λ _. lumaClass (Tx_Wide t)) l ≡ stores h4 (leftOf inter tm t w4 h4) l)
+  whole-luma true c h = (
+    whole-masks tm t w4 h4 h by4 bx4 skip a l ms r (c refl) w,
+    whole-above tm t w4 h4 h by4 bx4 skip a l ms r (c refl),
+    whole-left tm t w4 h4 h by4 bx4 skip a l ms r (c refl),
+  )
+  whole-luma false c h = (refl, refl, refl)

@@ -5,21 +5,22 @@ use super::edge::set_edge;
 ghost use mathlib.Core.Path.{_≡_};
 ghost use Prim.Native.Nat.{_+_, _-_, _<_, _≤_};
 ghost use lib.ListN.{length, getD};
+ghost use Rattle.plane.specs.Line.{passOf};
 ghost use Rattle.mask_edges.specs.Folds.{bitIn, blockEdge, walk, lineEdges, stores, cellPass, cellAt, classIn, stepIn, Held, Told};
 
 const CLASS: usize = 0;
 
 const STEP: usize = 1;
 
-fn cell(txa: &[u8], pass: usize, what: usize, u: usize, v: usize) -> u8
+fn cell(txa: &[u8], rowwise: bool, what: usize, u: usize, v: usize) -> u8
     requires { ⌜ (length (now txa) ≡ 4096) × (what < 2) × (u < 32) × (v < 32) ⌝ }
-    ensures { λ r. ⌜ r ≡ getD (now (txa .entry)) (cellAt pass what u v) 0 ⌝ }
+    ensures { λ r. ⌜ r ≡ getD (now (txa .entry)) (cellAt (passOf rowwise) what u v) 0 ⌝ }
 {
-    if pass == 0 {
-        let at = (what * 32 + v) * 32 + u;
+    if rowwise {
+        let at = ((2 + what) * 32 + u) * 32 + v;
         return txa[at];
     }
-    let at = ((2 + what) * 32 + u) * 32 + v;
+    let at = (what * 32 + v) * 32 + u;
     txa[at]
 }
 
@@ -32,9 +33,9 @@ fn first_edges(masks: &mut [u16], txa: &[u8], p: BlockPass, ctx: &mut [u8])
     let n = p.along;
     let u = p.across - 1;
     for v in 0..n {
-        let class = cell(txa, p.pass, CLASS, 0, v);
+        let class = cell(txa, p.rowwise, CLASS, 0, v);
         let k = least(class, ctx[v]);
-        ctx[v] = cell(txa, p.pass, CLASS, u, v);
+        ctx[v] = cell(txa, p.rowwise, CLASS, u, v);
         set_edge(masks, p, 0, k, v);
     }
 }
@@ -45,13 +46,13 @@ fn line_edges(masks: &mut [u16], txa: &[u8], p: BlockPass, v: usize)
     ensures { λ _. ⌜ now (masks .exit) ≡ walk (bitIn p) (p .across) (λ u. classIn (now (txa .entry)) p u v) (λ u. stepIn (now (txa .entry)) p u v) v (p .across)
         (stepIn (now (txa .entry)) p 0 v) (classIn (now (txa .entry)) p 0 v) (now (masks .entry)) ⌝ }
 {
-    let mut ltx = cell(txa, p.pass, CLASS, 0, v);
-    let mut x = cell(txa, p.pass, STEP, 0, v) as usize;
+    let mut ltx = cell(txa, p.rowwise, CLASS, 0, v);
+    let mut x = cell(txa, p.rowwise, STEP, 0, v) as usize;
     while x < p.across {
-        let rtx = cell(txa, p.pass, CLASS, x, v);
+        let rtx = cell(txa, p.rowwise, CLASS, x, v);
         set_edge(masks, p, x, least(rtx, ltx), v);
         ltx = rtx;
-        x += cell(txa, p.pass, STEP, x, v) as usize;
+        x += cell(txa, p.rowwise, STEP, x, v) as usize;
     }
 }
 

@@ -1,30 +1,31 @@
 // One pass over a block, and the bits of its edges. Places and sizes are in units of the plane at hand.
+use units::masks::edge_word;
 ghost use mathlib.Core.Path.{_≡_};
 ghost use Prim.Native.Nat.{_+_, _-_, _*_, _/_, _%_, _^_, _<_, _≤_, min};
 ghost use lib.Bits.{bitOr};
 ghost use lib.ListN.{length, getD, set};
 ghost use Rattle.bits.specs.Mark.{mark, marks};
-ghost use Rattle.mask_edges.specs.Folds.{edgeWord, classes, bitIn, columnsOf, rowsOf, Held};
+ghost use Rattle.mask_edges.specs.Folds.{classes, bitIn, columnsOf, rowsOf, Held};
 
-// BlockPass 0 is columns, 1 rows. `unit` and `across` are the block's place and visible size across the pass, `place` and `along`
-// along it; a half of a mask holds `half` units.
+// `unit` and `across` are the block's place and visible size across the pass, `place` and `along` along it; a half of a mask holds
+// `half` units.
 pub struct BlockPass {
-    pub chroma: bool,
+    pub luma: bool,
     pub half: usize,
-    pub pass: usize,
+    pub rowwise: bool,
     pub unit: usize,
     pub place: usize,
     pub across: usize,
     pub along: usize,
 }
 
-pub fn columns(chroma: bool, half: usize, by4: usize, bx4: usize, w4: usize, h4: usize) -> BlockPass
-    ensures { λ r. ⌜ r ≡ columnsOf chroma half by4 bx4 w4 h4 ⌝ }
+pub fn columns(luma: bool, half: usize, by4: usize, bx4: usize, w4: usize, h4: usize) -> BlockPass
+    ensures { λ r. ⌜ r ≡ columnsOf luma half by4 bx4 w4 h4 ⌝ }
 {
     BlockPass {
-        chroma,
+        luma,
         half,
-        pass: 0,
+        rowwise: false,
         unit: bx4,
         place: by4,
         across: w4,
@@ -32,13 +33,13 @@ pub fn columns(chroma: bool, half: usize, by4: usize, bx4: usize, w4: usize, h4:
     }
 }
 
-pub fn rows(chroma: bool, half: usize, by4: usize, bx4: usize, w4: usize, h4: usize) -> BlockPass
-    ensures { λ r. ⌜ r ≡ rowsOf chroma half by4 bx4 w4 h4 ⌝ }
+pub fn rows(luma: bool, half: usize, by4: usize, bx4: usize, w4: usize, h4: usize) -> BlockPass
+    ensures { λ r. ⌜ r ≡ rowsOf luma half by4 bx4 w4 h4 ⌝ }
 {
     BlockPass {
-        chroma,
+        luma,
         half,
-        pass: 1,
+        rowwise: true,
         unit: by4,
         place: bx4,
         across: h4,
@@ -50,14 +51,6 @@ pub fn least(a: u8, b: u8) -> u8
     ensures { λ r. ⌜ r ≡ min a b ⌝ }
 {
     if a <= b { a } else { b }
-}
-
-// The word of an edge's lower half.
-pub fn edge_word(chroma: bool, pass: usize, unit: usize, class: u8) -> usize
-    requires { ⌜ (pass < 2) × (unit < 32) × (class < classes chroma) ⌝ }
-    ensures { λ r. ⌜ (r ≡ edgeWord chroma pass unit class 0) × (r < 639) ⌝ }
-{
-    units::masks::edge_word(!chroma, pass == 1, unit, class)
 }
 
 // A mask word is stored only here, and only to set a bit.
@@ -86,10 +79,10 @@ pub fn set_in(masks: &mut [u16], at: usize, class: u8, k: usize)
 
 // The block's edge at (u, v).
 pub fn set_edge(masks: &mut [u16], p: BlockPass, u: usize, class: u8, v: usize)
-    requires { ⌜ Held p (length (now masks)) × (class < classes (p .chroma)) × (u < p .across) × (v < p .along) ⌝ }
+    requires { ⌜ Held p (length (now masks)) × (class < classes (p .luma)) × (u < p .across) × (v < p .along) ⌝ }
     ensures { λ _. ⌜ now (masks .exit) ≡ mark (now (masks .entry)) (bitIn p u class v) ⌝ }
 {
-    let at = edge_word(p.chroma, p.pass, p.unit + u, class);
+    let at = edge_word(p.luma, p.rowwise, p.unit + u, class);
     let q = p.place + v;
     if q < p.half {
         set_at(masks, at, q);
@@ -124,10 +117,10 @@ fn set_half(masks: &mut [u16], at: usize, bits: u16)
 
 // The block's edges at u, all along it: two words at once.
 pub fn set_edges(masks: &mut [u16], p: BlockPass, u: usize, class: u8)
-    requires { ⌜ Held p (length (now masks)) × (class < classes (p .chroma)) × (u < p .across) ⌝ }
+    requires { ⌜ Held p (length (now masks)) × (class < classes (p .luma)) × (u < p .across) ⌝ }
     ensures { λ _. ⌜ now (masks .exit) ≡ marks (p .along) (bitIn p u class) (now (masks .entry)) ⌝ }
 {
-    let at = edge_word(p.chroma, p.pass, p.unit + u, class);
+    let at = edge_word(p.luma, p.rowwise, p.unit + u, class);
     let w = bits::run_word(p.place as u32, p.along as u32);
     let lo = low_half(w, p.half as u32);
     let hi = high_half(w, p.half as u32);

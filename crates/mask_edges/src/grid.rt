@@ -1,9 +1,9 @@
 // One pass over a block of one transform, whose edges stand at every step of its side.
 use super::edge::BlockPass;
-use super::edge::edge_word;
 use super::edge::least;
 use super::edge::set_edges;
 use super::edge::set_in;
+use units::masks::edge_word;
 ghost use mathlib.Core.Path.{_≡_};
 ghost use mathlib.Core.List.{List};
 ghost use Prim.Native.Nat.{ℕ, _-_, _*_, _/_, _<_, _≤_, _+_};
@@ -20,11 +20,11 @@ fn half_edge(
     from: usize,
     to: usize,
 )
-    requires { ⌜ Held p (length (now masks)) × (class < classes (p .chroma)) × (0 < p .across) × (to ≤ p .along) × (p .along ≤ length (now ctx)) ⌝ }
+    requires { ⌜ Held p (length (now masks)) × (class < classes (p .luma)) × (0 < p .across) × (to ≤ p .along) × (p .along ≤ length (now ctx)) ⌝ }
     requires within { ⌜ (half < 2) × (from ≤ to) × (half * p .half ≤ p .place + from) × (p .place + to ≤ half * p .half + p .half) ⌝ }
     ensures { λ _. ⌜ ((c ms : List ℕ) → Edged p class c ms from (now (ctx .entry)) (now (masks .entry)) → Edged p class c ms to (now (ctx .exit)) (now (masks .exit))) ⌝ }
 {
-    let at = edge_word(p.chroma, p.pass, p.unit, 0) + half;
+    let at = edge_word(p.luma, p.rowwise, p.unit, 0) + half;
     let before = half * p.half;
     for v in from..to {
         let k = least(class, ctx[v]);
@@ -35,7 +35,7 @@ fn half_edge(
 
 // The block's own edge; its context becomes the class.
 fn block_edge(masks: &mut [u16], p: BlockPass, class: u8, ctx: &mut [u8])
-    requires { ⌜ Held p (length (now masks)) × (class < classes (p .chroma)) × (0 < p .across) × (p .along ≤ length (now ctx)) ⌝ }
+    requires { ⌜ Held p (length (now masks)) × (class < classes (p .luma)) × (0 < p .across) × (p .along ≤ length (now ctx)) ⌝ }
     ensures masks { λ _. ⌜ now (masks .exit) ≡ blockEdge (bitIn p) (p .along) (λ _. class) (λ v. getD (now (ctx .entry)) v 0) (now (masks .entry)) ⌝ }
     ensures context { λ _. ⌜ now (ctx .exit) ≡ stores (p .along) (λ _. class) (now (ctx .entry)) ⌝ }
 {
@@ -53,7 +53,7 @@ fn block_edge(masks: &mut [u16], p: BlockPass, class: u8, ctx: &mut [u8])
 }
 
 fn step_edges(masks: &mut [u16], p: BlockPass, step: usize, class: u8)
-    requires { ⌜ Held p (length (now masks)) × (class < classes (p .chroma)) × (0 < p .across) × (0 < step) ⌝ }
+    requires { ⌜ Held p (length (now masks)) × (class < classes (p .luma)) × (0 < p .across) × (0 < step) ⌝ }
     ensures { λ _. ⌜ now (masks .exit) ≡ stepEdges (bitIn p) (p .along) step class ((p .across - 1) / step) (now (masks .entry)) ⌝ }
 {
     if p.across <= step {
@@ -73,7 +73,7 @@ pub fn mask_grid(
     skip: bool,
     ctx: &mut [u8],
 )
-    requires { ⌜ Held p (length (now masks)) × (class < classes (p .chroma)) × (0 < p .across) × (0 < step) × (p .along ≤ length (now ctx)) ⌝ }
+    requires { ⌜ Held p (length (now masks)) × (class < classes (p .luma)) × (0 < p .across) × (0 < step) × (p .along ≤ length (now ctx)) ⌝ }
     ensures masks { λ _. ⌜ now (masks .exit) ≡ gridPass (bitIn p) (p .across) (p .along) step class skip (λ v. getD (now (ctx .entry)) v 0) (now (masks .entry)) ⌝ }
     ensures context { λ _. ⌜ now (ctx .exit) ≡ stores (p .along) (λ _. class) (now (ctx .entry)) ⌝ }
 {

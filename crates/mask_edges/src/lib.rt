@@ -24,7 +24,7 @@ ghost use Rattle.standard.specs.Sizes.{Tx_Wide, Tx_High};
 ghost use Rattle.units.specs.Sizes.{lumaClass, chromaClass};
 ghost use Rattle.decomp.specs.Cells.{Covers};
 ghost use Rattle.mask_edges.specs.Recording.{Room};
-ghost use Rattle.mask_edges.specs.Folds.{oneMasks, intraMasks, chromaMasks, interMasks, lastRow, lastColumn, stores, wholeBy};
+ghost use Rattle.mask_edges.specs.Folds.{oneMasks, lumaMasks, chromaMasks, aboveOf, leftOf, stores, wholeBy};
 ghost use Rattle.mask_edges.specs.Promises.{Promises};
 
 // A block of one transform, of w by h units.
@@ -46,30 +46,10 @@ fn one_transform(
     ensures above { λ _. ⌜ now (a .exit) ≡ stores (w4 .0) (λ _. lumaClass (h .0)) (now (a .entry)) ⌝ }
     ensures left { λ _. ⌜ now (l .exit) ≡ stores (h4 .0) (λ _. lumaClass (w .0)) (now (l .entry)) ⌝ }
 {
-    let across = columns(false, 16, by4.0, bx4.0, w4.0, h4.0);
-    let down = rows(false, 16, by4.0, bx4.0, w4.0, h4.0);
+    let across = columns(true, 16, by4.0, bx4.0, w4.0, h4.0);
+    let down = rows(true, 16, by4.0, bx4.0, w4.0, h4.0);
     mask_grid(masks, across, w.0, luma_class(w), skip, l);
     mask_grid(masks, down, h.0, luma_class(h), skip, a);
-}
-
-pub fn mask_edges_intra(
-    masks: &mut [u16],
-    by4: LumaUnit,
-    bx4: LumaUnit,
-    w4: LumaUnit,
-    h4: LumaUnit,
-    tx: usize,
-    a: &mut [u8],
-    l: &mut [u8],
-)
-    requires { ⌜ Room (by4 .0) (bx4 .0) (w4 .0) (h4 .0) 0 0 (length (now masks)) (length (now a)) (length (now l)) × (tx < 19) ⌝ }
-    ensures masks { λ _. ⌜ now (masks .exit) ≡ intraMasks (by4 .0) (bx4 .0) (w4 .0) (h4 .0) tx (now (a .entry)) (now (l .entry)) (now (masks .entry)) ⌝ }
-    ensures above { λ _. ⌜ now (a .exit) ≡ stores (w4 .0) (λ _. lumaClass (Tx_High tx)) (now (a .entry)) ⌝ }
-    ensures left { λ _. ⌜ now (l .exit) ≡ stores (h4 .0) (λ _. lumaClass (Tx_Wide tx)) (now (l .entry)) ⌝ }
-{
-    let w = luma_tx_wide(tx);
-    let h = luma_tx_high(tx);
-    one_transform(masks, by4, bx4, w4, h4, false, w, h, a, l);
 }
 
 pub fn mask_edges_chroma(
@@ -92,54 +72,60 @@ pub fn mask_edges_chroma(
 {
     let w = chroma_tx_wide(tx);
     let h = chroma_tx_high(tx);
-    let across = columns(true, 16 >> ss_ver, cby4.0, cbx4.0, cw4.0, ch4.0);
-    let down = rows(true, 16 >> ss_hor, cby4.0, cbx4.0, cw4.0, ch4.0);
+    let across = columns(false, 16 >> ss_ver, cby4.0, cbx4.0, cw4.0, ch4.0);
+    let down = rows(false, 16 >> ss_hor, cby4.0, cbx4.0, cw4.0, ch4.0);
     mask_grid(masks, across, w.0, chroma_class(w), skip_inter, l);
     mask_grid(masks, down, h.0, chroma_class(h), skip_inter, a);
 }
 
-// Nothing of the block is split: no transform can be, or its one maximal transform, of w by h units, is not.
+// Nothing of the block is split: it is intra, or no transform can be, or its one maximal transform, of w by h units, is not.
 fn is_whole(
-    max_tx: usize,
+    inter: bool,
+    tx: usize,
     w4: LumaUnit,
     h4: LumaUnit,
     w: LumaUnit,
     h: LumaUnit,
     tx_masks: &[u16; 2],
 ) -> bool
-    ensures { λ r. ⌜ r ≡ wholeBy «max_tx» (w4 .0) (h4 .0) (w .0) (h .0) (getD (now («tx_masks» .entry)) 0 0) ⌝ }
+    ensures { λ r. ⌜ r ≡ wholeBy inter tx (w4 .0) (h4 .0) (w .0) (h .0) (getD (now («tx_masks» .entry)) 0 0) ⌝ }
 {
-    let none = (max_tx == 0) | (tx_masks[0] == 0);
+    if !inter {
+        return true;
+    }
+    let none = (tx == 0) | (tx_masks[0] == 0);
     none | (((w4.0 <= w.0) & (h4.0 <= h.0)) & !bits::has(tx_masks[0], 0))
 }
 
-pub fn mask_edges_inter(
+// The transform of an inter block is its maximal one, and tx_masks tell where it is split.
+pub fn mask_edges_luma(
     masks: &mut [u16],
     by4: LumaUnit,
     bx4: LumaUnit,
     w4: LumaUnit,
     h4: LumaUnit,
+    inter: bool,
     skip: bool,
-    max_tx: usize,
+    tx: usize,
     tx_masks: &[u16; 2],
     a: &mut [u8],
     l: &mut [u8],
 )
-    requires { ⌜ Room (by4 .0) (bx4 .0) (w4 .0) (h4 .0) 0 0 (length (now masks)) (length (now a)) (length (now l)) × Covers «max_tx» (w4 .0) (h4 .0) ⌝ }
-    ensures masks { λ _. ⌜ now (masks .exit) ≡ interMasks (by4 .0) (bx4 .0) (w4 .0) (h4 .0) skip «max_tx» (now («tx_masks» .entry)) (now (a .entry)) (now (l .entry)) (now (masks .entry)) ⌝ }
-    ensures above { λ _. ⌜ now (a .exit) ≡ stores (w4 .0) (lastRow (now («tx_masks» .entry)) «max_tx» (w4 .0) (h4 .0)) (now (a .entry)) ⌝ }
-    ensures left { λ _. ⌜ now (l .exit) ≡ stores (h4 .0) (lastColumn (now («tx_masks» .entry)) «max_tx» (w4 .0) (h4 .0)) (now (l .entry)) ⌝ }
+    requires { ⌜ Room (by4 .0) (bx4 .0) (w4 .0) (h4 .0) 0 0 (length (now masks)) (length (now a)) (length (now l)) × (tx < 19) × (inter ≡ true → Covers tx (w4 .0) (h4 .0)) ⌝ }
+    ensures masks { λ _. ⌜ now (masks .exit) ≡ lumaMasks (by4 .0) (bx4 .0) (w4 .0) (h4 .0) inter skip tx (now («tx_masks» .entry)) (now (a .entry)) (now (l .entry)) (now (masks .entry)) ⌝ }
+    ensures above { λ _. ⌜ now (a .exit) ≡ stores (w4 .0) (aboveOf inter (now («tx_masks» .entry)) tx (w4 .0) (h4 .0)) (now (a .entry)) ⌝ }
+    ensures left { λ _. ⌜ now (l .exit) ≡ stores (h4 .0) (leftOf inter (now («tx_masks» .entry)) tx (w4 .0) (h4 .0)) (now (l .entry)) ⌝ }
 {
-    let w = luma_tx_wide(max_tx);
-    let h = luma_tx_high(max_tx);
-    if is_whole(max_tx, w4, h4, w, h, tx_masks) {
-        one_transform(masks, by4, bx4, w4, h4, skip, w, h, a, l);
+    let w = luma_tx_wide(tx);
+    let h = luma_tx_high(tx);
+    if is_whole(inter, tx, w4, h4, w, h, tx_masks) {
+        one_transform(masks, by4, bx4, w4, h4, inter & skip, w, h, a, l);
         return;
     }
     let mut txa = [0u8; 4096];
-    decomp_block(&mut txa, max_tx, w4, h4, tx_masks);
-    let across = columns(false, 16, by4.0, bx4.0, w4.0, h4.0);
-    let down = rows(false, 16, by4.0, bx4.0, w4.0, h4.0);
+    decomp_block(&mut txa, tx, w4, h4, tx_masks);
+    let across = columns(true, 16, by4.0, bx4.0, w4.0, h4.0);
+    let down = rows(true, 16, by4.0, bx4.0, w4.0, h4.0);
     mask_cells(masks, &txa, across, skip, l);
     mask_cells(masks, &txa, down, skip, a);
 }

@@ -10,14 +10,14 @@ use Rattle.units.specs.Frame.{recordOf}
 use Rattle.units.specs.Masks.{lumaBit}
 use Rattle.units.proofs.Places.{ss-hor-le, ss-ver-le}
 use Rattle.mask_edges.specs.Recording.{Room, Contexts, chromaBits, intraBlock, interBlock}
-use Rattle.mask_edges.specs.Folds.{stores}
+use Rattle.mask_edges.specs.Folds.{stores, aboveOf, leftOf}
+use Rattle.mask_edges.specs.Folds as folds
 use Rattle.mask_edges.specs.Recording as recording
 use Rattle.mask_edges.proofs.Theorems as mask-edges
 use Rattle.block.specs.declared.Block.{Block}
 use Rattle.block.specs.Block.{w4, ss-hor, ss-ver, bw4, bh4, cbw4, cbh4, seesLuma, seesChroma, Lent, lent}
 use Rattle.block.specs.Tests.{number}
-use Rattle.record.specs.Record.{cbx4, cby4, lumaLevels, chromaLevels, intraMasks, interMasks, lumaMasks, chromaMasks, intraAbove, intraLeft, interAbove}
-use Rattle.record.specs.Record.{interLeft, lumaAbove, lumaLeft, chromaAbove, chromaLeft, Fitting}
+use Rattle.record.specs.Record.{inRecord, cbx4, cby4, lumaLevels, chromaLevels, lumaMasks, chromaMasks, lumaAbove, lumaLeft, chromaAbove, chromaLeft, Fitting}
 use Rattle.record.specs.Recorded.{lumaBlock, chromaBlock, inFrame, lumaEdge, chromaEdge, Masks, Stored}
 use Rattle.record.proofs.Rooms.{luma-seen, luma-fits, luma-record, luma-covers, chroma-seen, chroma-tx, chroma-place, chroma-record-in}
 use Rattle.record.proofs.SoundBlocks.{fitting, levels-long, masks-long, luma-long, chroma-long}
@@ -32,10 +32,6 @@ stores-long true n f c = go n
     go : (n : ℕ) → length (stores n f c) ≡ length c
     go zero = refl
     go (suc n) = simp length-set (go n)
-
-either-long : (i : Bool) (c d e : List ℕ) → length c ≡ length e → length d ≡ length e → length (cond i c d) ≡ length e
-either-long true c d e p q = p
-either-long false c d e p q = q
 
 module _ (b : Block) (level-stride : ℕ) (m : Lent) (ok : number b level-stride m ≡ 0) where
   s : Fitting b
@@ -74,7 +70,8 @@ module _ (b : Block) (level-stride : ℕ) (m : Lent) (ok : number b level-stride
     luma-added = go (b .inter) refl
       where
         go : (i : Bool) → b .inter ≡ i
-            → Added true (cond i inter intra) (inFrame b lumaBit) (m .masks) (cond i (interMasks b tm (m .above) (m .left) (m .masks)) (intraMasks b (m .above) (m .left) (m .masks)))
+            → Added true (cond i inter intra) (inFrame b lumaBit) (m .masks)
+            (cond (seesLuma b) (inRecord (640 * at) (folds.lumaMasks (b .y .0 % 32) (b .x .0 % 32) (bw4 b) (bh4 b) i (b .skip) (b .tx) tm (m .above) (m .left)) (m .masks)) (m .masks))
         go true i =
             added inter lumaBit at _ (m .masks) true
             (λ e. (luma-in e, mask-edges.promises .inter _ _ _ _ (b .skip) (b .tx) tm (m .above) (m .left) _ (luma-room e) (luma-covers b s e i) .0))
@@ -83,12 +80,12 @@ module _ (b : Block) (level-stride : ℕ) (m : Lent) (ok : number b level-stride
             (λ e. (luma-in e, mask-edges.promises .intra _ _ _ _ (b .tx) (m .above) (m .left) _ (luma-room e) (s .tx) .0))
 
     luma-contexts : seesLuma b ≡ true → Contexts (lumaBlock b tm m) (lumaAbove b tm (m .above)) (lumaLeft b tm (m .left))
-    luma-contexts e = go (b .inter) refl
+    luma-contexts e = rw e (go (b .inter) refl)
       where
         go : (i : Bool) → b .inter ≡ i
-            → Contexts (cond i inter intra) (cond i (interAbove b tm (m .above)) (intraAbove b (m .above))) (cond i (interLeft b tm (m .left)) (intraLeft b (m .left)))
-        go true i = rw e (mask-edges.promises .inter _ _ _ _ (b .skip) (b .tx) tm (m .above) (m .left) (part-of (m .masks)) (luma-room e) (luma-covers b s e i) .1)
-        go false i = rw e (mask-edges.promises .intra _ _ _ _ (b .tx) (m .above) (m .left) (part-of (m .masks)) (luma-room e) (s .tx) .1)
+            → Contexts (cond i inter intra) (stores (bw4 b) (aboveOf i tm (b .tx) (bw4 b) (bh4 b)) (m .above)) (stores (bh4 b) (leftOf i tm (b .tx) (bw4 b) (bh4 b)) (m .left))
+        go true i = mask-edges.promises .inter _ _ _ _ (b .skip) (b .tx) tm (m .above) (m .left) (part-of (m .masks)) (luma-room e) (luma-covers b s e i) .1
+        go false i = mask-edges.promises .intra _ _ _ _ (b .tx) (m .above) (m .left) (part-of (m .masks)) (luma-room e) (s .tx) .1
 
   -- ---- chroma
 
@@ -145,15 +142,11 @@ module _ (b : Block) (level-stride : ℕ) (m : Lent) (ok : number b level-stride
           levels = block-levels b s level-stride values (m .levels) (levels-long b level-stride m ok .0) (levels-long b level-stride m ok .1);
           masks = masks;
           luma = luma-contexts tm;
-          luma-stay = λ e. rw e (either (b .inter) (m .above), either (b .inter) (m .left));
+          luma-stay = λ e. rw e (refl, refl);
           chroma = chroma-contexts;
           chroma-stay = λ e. rw e (refl, refl);
-          above-long = either-long (b .inter) (interAbove b tm (m .above)) (intraAbove b (m .above)) (m .above) (stores-long (seesLuma b) _ _ _) (stores-long (seesLuma b) _ _ _);
-          left-long = either-long (b .inter) (interLeft b tm (m .left)) (intraLeft b (m .left)) (m .left) (stores-long (seesLuma b) _ _ _) (stores-long (seesLuma b) _ _ _);
+          above-long = stores-long (seesLuma b) _ _ (m .above);
+          left-long = stores-long (seesLuma b) _ _ (m .left);
           above-uv-long = stores-long (seesChroma b) _ _ (m .above-uv);
           left-uv-long = stores-long (seesChroma b) _ _ (m .left-uv);
         }
-      where
-        either : (i : Bool) (c : List ℕ) → cond i c c ≡ c
-        either true c = refl
-        either false c = refl

@@ -2,7 +2,7 @@
 use mathlib.Core.Bool.{Bool, true, false, cond}
 use mathlib.Core.List.{List, _++_}
 use mathlib.Core.Path.{_≡_, refl, sym, ap, _∙_}
-use Prim.Native.Nat.{ℕ, zero, suc, _+_, _-_, _/_, _≤_, min}
+use Prim.Native.Nat.{ℕ, zero, suc, _+_, _-_, _/_, _%_, _≤_, min}
 use native.Mathlib.Nat.{le-refl}
 use native.Mathlib.Omega.{arith}
 use lib.ListN.{length, getD, set, take, drop, length-set, take-append-drop}
@@ -13,9 +13,10 @@ use Rattle.standard.specs.Sizes.{Tx_Wide, Tx_High}
 use Rattle.units.specs.Sizes.{lumaClass, chromaClass}
 use Rattle.mask_edges.specs.declared.edge.BlockPass.{BlockPass}
 use Rattle.mask_edges.specs.Folds.{bitIn, blockEdge, stepEdges, lineEdges, gridPass, cellPass, gridMasks, cellMasks, stores, classIn, stepIn, tables}
+use Rattle.mask_edges.specs.Folds as folds
 use Rattle.block.specs.declared.Block.{Block}
 use Rattle.block.specs.Block.{bw4, bh4, cbw4, cbh4, seesLuma, seesChroma}
-use Rattle.record.specs.Record.{recordAt, inRecord, lumaColumns, lumaRows, chromaColumns, chromaRows, intraMasks, interMasks, chromaMasks}
+use Rattle.record.specs.Record.{recordAt, inRecord, lumaMasks, chromaMasks}
 
 -- ---- masks
 
@@ -56,17 +57,16 @@ unfolding inRecord
 same-record p at g h ms e = ap (λ (m : List ℕ). cond p (take at ms ++ (m ++ drop (at + 640) ms)) ms) (e (take 640 (drop at ms)))
 
 module _ (b : Block) (w h : ℕ) (a l ms : List ℕ) where
-  pub intra-near : w ≡ bw4 b → h ≡ bh4 b → intraMasks b (take w a) (take h l) ms ≡ intraMasks b a l ms
-  intra-near ew eh =
-      rw (ew, eh) (same-record (seesLuma b) (recordAt b) _ _ ms (λ m. grid-masks (lumaColumns b) (lumaRows b) false a l m lumaClass (b .tx)))
-
-  pub inter-near : (tm : List ℕ) → w ≡ bw4 b → h ≡ bh4 b → interMasks b tm (take w a) (take h l) ms ≡ interMasks b tm a l ms
-  inter-near tm ew eh =
-      rw (ew, eh) (same-record (seesLuma b) (recordAt b) _ _ ms (λ m. cell-masks (lumaColumns b) (lumaRows b) (b .skip) a l m (tables tm (b .tx) (bw4 b) (bh4 b))))
+  pub luma-near : (tm : List ℕ) → w ≡ bw4 b → h ≡ bh4 b → lumaMasks b tm (take w a) (take h l) ms ≡ lumaMasks b tm a l ms
+  luma-near tm ew eh = rw (ew, eh) (same-record (seesLuma b) (recordAt b) _ _ ms (go (b .inter)))
+    where
+      go : (i : Bool) (m : List ℕ) → folds.lumaMasks (b .y .0 % 32) (b .x .0 % 32) (bw4 b) (bh4 b) i (b .skip) (b .tx) tm (take (bw4 b) a) (take (bh4 b) l) m
+          ≡ folds.lumaMasks (b .y .0 % 32) (b .x .0 % 32) (bw4 b) (bh4 b) i (b .skip) (b .tx) tm a l m
+      go true m = cell-masks _ _ (b .skip) a l m (tables tm (b .tx) (bw4 b) (bh4 b))
+      go false m = grid-masks _ _ false a l m lumaClass (b .tx)
 
   pub chroma-near : w ≡ cbw4 b → h ≡ cbh4 b → chromaMasks b (take w a) (take h l) ms ≡ chromaMasks b a l ms
-  chroma-near ew eh =
-      rw (ew, eh) (same-record (seesChroma b) (recordAt b) _ _ ms (λ m. grid-masks (chromaColumns b) (chromaRows b) (b .skip) a l m chromaClass (b .uvtx)))
+  chroma-near ew eh = rw (ew, eh) (same-record (seesChroma b) (recordAt b) _ _ ms (λ m. grid-masks _ _ (b .skip) a l m chromaClass (b .uvtx)))
 
 -- ---- contexts
 

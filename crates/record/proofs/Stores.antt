@@ -1,5 +1,5 @@
 -- The turns of the code's loops and what its calls come to, by the laws of `upTo` and of a part of a list that was changed.
-use mathlib.Core.Bool.{true, false}
+use mathlib.Core.Bool.{true}
 use mathlib.Core.List.{List, _++_}
 use mathlib.Core.Path.{_≡_, refl, sym, ap, ap₂, _∙_}
 use Prim.Native.Nat.{ℕ, zero, suc, _+_, _-_, _*_, _%_, _≤_, _<_}
@@ -11,13 +11,11 @@ use borrow.Rule.Slice.PartMut.{midOf, postOf, putMid, mid-len, put-same, take-pu
 use Rattle.loops.proofs.Runs.{upTo-again}
 use Rattle.loops.proofs.Lists.{part-put}
 use Rattle.units.specs.Units.{chromaUnit}
-use Rattle.units.specs.Masks.{halfUnits}
 use Rattle.units.specs.Memory.{levelAt}
-use Rattle.units.specs.Sizes.{lumaClass, chromaClass}
-use Rattle.mask_edges.specs.Folds.{columnsOf, rowsOf, gridMasks, cellMasks, tables}
+use Rattle.mask_edges.specs.Folds as folds
 use Rattle.block.specs.declared.Block.{Block}
 use Rattle.block.specs.Block.{ss-hor, ss-ver, bw4, bh4, cbw4, cbh4, seesLuma, seesChroma}
-use Rattle.record.specs.Record.{valueOf, fillRow, fillLevels, recordAt, inRecord, lumaLevels, chromaLevels, intraMasks, interMasks, chromaMasks}
+use Rattle.record.specs.Record.{valueOf, fillRow, fillLevels, recordAt, inRecord, lumaLevels, chromaLevels, lumaMasks, chromaMasks}
 
 -- ---- levels
 
@@ -90,25 +88,14 @@ unfolding inRecord
 in-record a xs ys g = part-put a 640 (a + 640) xs ys g refl
 
 module _ (b : Block) (at w h : ℕ) (a l xs ys : List ℕ) (ea : at ≡ recordAt b) where
-  pub intra-put : seesLuma b ≡ true → w ≡ bw4 b → h ≡ bh4 b
-      → ys ≡ gridMasks (columnsOf false 16 (b .y .0 % 32) (b .x .0 % 32) w h) (rowsOf false 16 (b .y .0 % 32) (b .x .0 % 32) w h) lumaClass (b .tx) false a l (take (at + 640 - at) (drop at xs))
-      → putMid at (at + 640 - at) xs ys ≡ intraMasks b a l xs
-  intra-put e ew eh g =
-      rw e (in-record at xs ys (gridMasks (columnsOf false 16 (b .y .0 % 32) (b .x .0 % 32) w h) (rowsOf false 16 (b .y .0 % 32) (b .x .0 % 32) w h) lumaClass (b .tx) false a l) g
-      ∙ rw (ea, ew, eh) refl)
-
-  pub inter-put : (tm : List ℕ) → seesLuma b ≡ true → w ≡ bw4 b → h ≡ bh4 b
-      → ys ≡ cellMasks (columnsOf false 16 (b .y .0 % 32) (b .x .0 % 32) w h) (rowsOf false 16 (b .y .0 % 32) (b .x .0 % 32) w h) (tables tm (b .tx) w h) (b .skip) a l
-      (take (at + 640 - at) (drop at xs))
-      → putMid at (at + 640 - at) xs ys ≡ interMasks b tm a l xs
-  inter-put tm e ew eh g =
-      rw e (in-record at xs ys (cellMasks (columnsOf false 16 (b .y .0 % 32) (b .x .0 % 32) w h) (rowsOf false 16 (b .y .0 % 32) (b .x .0 % 32) w h) (tables tm (b .tx) w h) (b .skip) a l) g
-      ∙ rw (ea, ew, eh) refl)
+  pub luma-put : (tm : List ℕ) → seesLuma b ≡ true → w ≡ bw4 b → h ≡ bh4 b
+      → ys ≡ folds.lumaMasks (b .y .0 % 32) (b .x .0 % 32) w h (b .inter) (b .skip) (b .tx) tm a l (take (at + 640 - at) (drop at xs))
+      → putMid at (at + 640 - at) xs ys ≡ lumaMasks b tm a l xs
+  luma-put tm e ew eh g =
+      rw e (in-record at xs ys (folds.lumaMasks (b .y .0 % 32) (b .x .0 % 32) w h (b .inter) (b .skip) (b .tx) tm a l) g ∙ rw (ea, ew, eh) refl)
 
   pub chroma-put : (hor ver cx cy : ℕ) → seesChroma b ≡ true → w ≡ cbw4 b → h ≡ cbh4 b → hor ≡ ss-hor b → ver ≡ ss-ver b → cx ≡ chromaUnit hor (b .x .0 % 32)
-      → cy ≡ chromaUnit ver (b .y .0 % 32)
-      → ys ≡ gridMasks (columnsOf true (halfUnits ver) cy cx w h) (rowsOf true (halfUnits hor) cy cx w h) chromaClass (b .uvtx) (b .skip) a l (take (at + 640 - at) (drop at xs))
+      → cy ≡ chromaUnit ver (b .y .0 % 32) → ys ≡ folds.chromaMasks cy cx w h (b .skip) (b .uvtx) hor ver a l (take (at + 640 - at) (drop at xs))
       → putMid at (at + 640 - at) xs ys ≡ chromaMasks b a l xs
   chroma-put hor ver cx cy e ew eh ehor ever ex ey g =
-      rw e (in-record at xs ys (gridMasks (columnsOf true (halfUnits ver) cy cx w h) (rowsOf true (halfUnits hor) cy cx w h) chromaClass (b .uvtx) (b .skip) a l) g
-      ∙ rw (ea, ew, eh, ex, ey, ehor, ever) refl)
+      rw e (in-record at xs ys (folds.chromaMasks cy cx w h (b .skip) (b .uvtx) hor ver a l) g ∙ rw (ea, ew, eh, ex, ey, ehor, ever) refl)

@@ -4,10 +4,9 @@
 --   fillRow, fillLevels            two bytes of each of w units, h times: u, and v after it
 --   recordAt b, inRecord a g       where the block's record of masks stands; the masks with g made of the 640 words at a
 --   cbx4, cby4                     the chroma place of the block in its record
---   lumaColumns, lumaRows, chromaColumns, chromaRows     the passes over the block
 --   lumaLevels, chromaLevels       the level bytes, in a plane in which units are recorded
---   intraMasks, interMasks, lumaMasks, chromaMasks       the masks
---   lumaAbove, lumaLeft, chromaAbove, chromaLeft         the contexts
+--   lumaMasks, chromaMasks         the masks
+--   lumaAbove, lumaLeft, chromaAbove, chromaLeft     the contexts
 --   RecordAnswer                   number and memory after a call; tm are the tx_masks of an inter block
 --   Fitting b, Sound b             what the work behind the number asks of a block, for its masks, and for its levels too
 use mathlib.Core.Bool.{Bool, true, false, cond, not}
@@ -22,11 +21,10 @@ use Rattle.loops.specs.Run.{upTo}
 use Rattle.standard.specs.Sizes.{Tx_Wide, Tx_High, Max_Tx_Size_Rect}
 use Rattle.units.specs.Units.{chromaUnit}
 use Rattle.units.specs.Frame.{recordOf}
-use Rattle.units.specs.Masks.{halfUnits}
 use Rattle.units.specs.Memory.{levelAt}
-use Rattle.units.specs.Sizes.{lumaClass, chromaClass}
-use Rattle.mask_edges.specs.declared.edge.BlockPass.{BlockPass}
-use Rattle.mask_edges.specs.Folds.{columnsOf, rowsOf, gridMasks, cellMasks, stores, classIn, tables}
+use Rattle.units.specs.Sizes.{chromaClass}
+use Rattle.mask_edges.specs.Folds.{stores, aboveOf, leftOf}
+use Rattle.mask_edges.specs.Folds as folds
 use Rattle.block.specs.declared.Block.{Block}
 use Rattle.block.specs.Block.{w4, h4, blockWidth, blockHeight, ss-hor, ss-ver, bw4, bh4, cbw4, cbh4, seesLuma, seesChroma, Lent, Sides}
 use Rattle.block.specs.Tests.{number}
@@ -92,18 +90,6 @@ cbx4 b = chromaUnit (ss-hor b) (b .x .0 % 32)
 abbrev pub cby4 : Block → ℕ
 cby4 b = chromaUnit (ss-ver b) (b .y .0 % 32)
 
-abbrev pub lumaColumns : Block → BlockPass
-lumaColumns b = columnsOf false 16 (b .y .0 % 32) (b .x .0 % 32) (bw4 b) (bh4 b)
-
-abbrev pub lumaRows : Block → BlockPass
-lumaRows b = rowsOf false 16 (b .y .0 % 32) (b .x .0 % 32) (bw4 b) (bh4 b)
-
-abbrev pub chromaColumns : Block → BlockPass
-chromaColumns b = columnsOf true (halfUnits (ss-ver b)) (cby4 b) (cbx4 b) (cbw4 b) (cbh4 b)
-
-abbrev pub chromaRows : Block → BlockPass
-chromaRows b = rowsOf true (halfUnits (ss-hor b)) (cby4 b) (cbx4 b) (cbw4 b) (cbh4 b)
-
 -- ---- levels
 
 abbrev pub lumaLevels : Block → ℕ → List ℕ → List ℕ → List ℕ
@@ -118,43 +104,25 @@ chromaLevels b level-stride values ls =
 
 -- ---- masks
 
-abbrev pub intraMasks : Block → List ℕ → List ℕ → List ℕ → List ℕ
-intraMasks b a l ms = cond (seesLuma b) (inRecord (recordAt b) (gridMasks (lumaColumns b) (lumaRows b) lumaClass (b .tx) false a l) ms) ms
-
-abbrev pub interMasks : Block → List ℕ → List ℕ → List ℕ → List ℕ → List ℕ
-interMasks b tm a l ms =
-    cond (seesLuma b)
-    (inRecord (recordAt b) (cellMasks (lumaColumns b) (lumaRows b) (tables tm (b .tx) (bw4 b) (bh4 b)) (b .skip) a l) ms)
-    ms
-
 abbrev pub lumaMasks : Block → List ℕ → List ℕ → List ℕ → List ℕ → List ℕ
-lumaMasks b tm a l ms = cond (b .inter) (interMasks b tm a l ms) (intraMasks b a l ms)
+lumaMasks b tm a l ms =
+    cond (seesLuma b)
+    (inRecord (recordAt b) (folds.lumaMasks (b .y .0 % 32) (b .x .0 % 32) (bw4 b) (bh4 b) (b .inter) (b .skip) (b .tx) tm a l) ms)
+    ms
 
 abbrev pub chromaMasks : Block → List ℕ → List ℕ → List ℕ → List ℕ
 chromaMasks b a l ms =
-    cond (seesChroma b) (inRecord (recordAt b) (gridMasks (chromaColumns b) (chromaRows b) chromaClass (b .uvtx) (b .skip) a l) ms) ms
+    cond (seesChroma b)
+    (inRecord (recordAt b) (folds.chromaMasks (cby4 b) (cbx4 b) (cbw4 b) (cbh4 b) (b .skip) (b .uvtx) (ss-hor b) (ss-ver b) a l) ms)
+    ms
 
 -- ---- contexts
 
-abbrev pub intraAbove : Block → List ℕ → List ℕ
-intraAbove b a = cond (seesLuma b) (stores (bw4 b) (λ _. lumaClass (Tx_High (b .tx))) a) a
-
-abbrev pub intraLeft : Block → List ℕ → List ℕ
-intraLeft b l = cond (seesLuma b) (stores (bh4 b) (λ _. lumaClass (Tx_Wide (b .tx))) l) l
-
-abbrev pub interAbove : Block → List ℕ → List ℕ → List ℕ
-interAbove b tm a =
-    cond (seesLuma b) (stores (bw4 b) (classIn (tables tm (b .tx) (bw4 b) (bh4 b)) (lumaRows b) (bh4 b - 1)) a) a
-
-abbrev pub interLeft : Block → List ℕ → List ℕ → List ℕ
-interLeft b tm l =
-    cond (seesLuma b) (stores (bh4 b) (classIn (tables tm (b .tx) (bw4 b) (bh4 b)) (lumaColumns b) (bw4 b - 1)) l) l
-
 abbrev pub lumaAbove : Block → List ℕ → List ℕ → List ℕ
-lumaAbove b tm a = cond (b .inter) (interAbove b tm a) (intraAbove b a)
+lumaAbove b tm a = cond (seesLuma b) (stores (bw4 b) (aboveOf (b .inter) tm (b .tx) (bw4 b) (bh4 b)) a) a
 
 abbrev pub lumaLeft : Block → List ℕ → List ℕ → List ℕ
-lumaLeft b tm l = cond (b .inter) (interLeft b tm l) (intraLeft b l)
+lumaLeft b tm l = cond (seesLuma b) (stores (bh4 b) (leftOf (b .inter) tm (b .tx) (bw4 b) (bh4 b)) l) l
 
 abbrev pub chromaAbove : Block → List ℕ → List ℕ
 chromaAbove b a = cond (seesChroma b) (stores (cbw4 b) (λ _. chromaClass (Tx_High (b .uvtx))) a) a

@@ -12,8 +12,7 @@ use block::seen;
 use level_bytes::chroma_levels;
 use level_bytes::luma_levels;
 use masks::chroma_masks;
-use masks::inter_masks;
-use masks::intra_masks;
+use masks::luma_masks;
 use units::LumaUnit;
 use units::Sample;
 ghost use mathlib.Core.Path.{_≡_};
@@ -23,38 +22,11 @@ ghost use Prim.Native.Nat.{_*_, _<_, _≤_};
 ghost use lib.ListN.{length};
 ghost use Rattle.units.specs.Frame.{frameRecords};
 ghost use Rattle.block.specs.Block.{w4, h4, bw4, bh4, cbw4, cbh4, seesLuma, seesChroma, lent};
-ghost use Rattle.record.specs.Record.{intraOf, interOf, lumaLevels, chromaLevels, intraMasks, interMasks, chromaMasks, intraAbove, intraLeft, interAbove};
-ghost use Rattle.record.specs.Record.{interLeft, chromaAbove, chromaLeft, RecordAnswer, Sound};
+ghost use Rattle.record.specs.Record.{intraOf, interOf, lumaLevels, chromaLevels, lumaMasks, chromaMasks, lumaAbove, lumaLeft, chromaAbove, chromaLeft};
+ghost use Rattle.record.specs.Record.{RecordAnswer, Sound};
 ghost use Rattle.record.specs.Promises.{Promises};
 
-fn intra_luma(
-    levels: &mut [u8],
-    level_stride: usize,
-    masks: &mut [u16],
-    values: &[u8; 64],
-    b: Block,
-    above: &mut [u8],
-    left: &mut [u8],
-)
-    requires { ⌜ Sound b × (w4 b ≤ «level_stride») × (4 * «level_stride» * h4 b ≤ length (now levels)) × (640 * frameRecords (w4 b) (h4 b) ≤ length (now masks))
-        × (seesLuma b ≡ true → (bw4 b ≤ length (now above)) × (bh4 b ≤ length (now left))) ⌝ }
-    ensures levels { λ _. ⌜ now (levels .exit) ≡ lumaLevels b «level_stride» (now (values .entry)) (now (levels .entry)) ⌝ }
-    ensures masks { λ _. ⌜ now (masks .exit) ≡ intraMasks b (now (above .entry)) (now (left .entry)) (now (masks .entry)) ⌝ }
-    ensures above { λ _. ⌜ now (above .exit) ≡ intraAbove b (now (above .entry)) ⌝ }
-    ensures left { λ _. ⌜ now (left .exit) ≡ intraLeft b (now (left .entry)) ⌝ }
-{
-    let w = luma_wide(b);
-    let h = luma_high(b);
-    if !seen(w.0, h.0) {
-        return;
-    }
-    luma_levels(levels, level_stride, values, b, w, h);
-    let width = w.0;
-    let height = h.0;
-    intra_masks(masks, b, w, h, &mut above[..width], &mut left[..height]);
-}
-
-fn inter_luma(
+fn luma(
     levels: &mut [u8],
     level_stride: usize,
     masks: &mut [u16],
@@ -65,11 +37,11 @@ fn inter_luma(
     left: &mut [u8],
 )
     requires { ⌜ Sound b × (w4 b ≤ «level_stride») × (4 * «level_stride» * h4 b ≤ length (now levels)) × (640 * frameRecords (w4 b) (h4 b) ≤ length (now masks))
-        × (seesLuma b ≡ true → (bw4 b ≤ length (now above)) × (bh4 b ≤ length (now left))) × (b .inter ≡ true) ⌝ }
+        × (seesLuma b ≡ true → (bw4 b ≤ length (now above)) × (bh4 b ≤ length (now left))) ⌝ }
     ensures levels { λ _. ⌜ now (levels .exit) ≡ lumaLevels b «level_stride» (now (values .entry)) (now (levels .entry)) ⌝ }
-    ensures masks { λ _. ⌜ now (masks .exit) ≡ interMasks b (now («tx_masks» .entry)) (now (above .entry)) (now (left .entry)) (now (masks .entry)) ⌝ }
-    ensures above { λ _. ⌜ now (above .exit) ≡ interAbove b (now («tx_masks» .entry)) (now (above .entry)) ⌝ }
-    ensures left { λ _. ⌜ now (left .exit) ≡ interLeft b (now («tx_masks» .entry)) (now (left .entry)) ⌝ }
+    ensures masks { λ _. ⌜ now (masks .exit) ≡ lumaMasks b (now («tx_masks» .entry)) (now (above .entry)) (now (left .entry)) (now (masks .entry)) ⌝ }
+    ensures above { λ _. ⌜ now (above .exit) ≡ lumaAbove b (now («tx_masks» .entry)) (now (above .entry)) ⌝ }
+    ensures left { λ _. ⌜ now (left .exit) ≡ lumaLeft b (now («tx_masks» .entry)) (now (left .entry)) ⌝ }
 {
     let w = luma_wide(b);
     let h = luma_high(b);
@@ -79,7 +51,7 @@ fn inter_luma(
     luma_levels(levels, level_stride, values, b, w, h);
     let width = w.0;
     let height = h.0;
-    inter_masks(
+    luma_masks(
         masks,
         b,
         w,
@@ -171,7 +143,7 @@ pub fn record_intra(
     if n != 0 {
         return n;
     }
-    intra_luma(levels, level_stride, masks, values, b, above, left);
+    luma(levels, level_stride, masks, values, b, &[0, 0], above, left);
     chroma_pair(levels, level_stride, masks, values, b, above_uv, left_uv);
     0
 }
@@ -231,7 +203,7 @@ pub fn record_inter(
     if n != 0 {
         return n;
     }
-    inter_luma(
+    luma(
         levels,
         level_stride,
         masks,

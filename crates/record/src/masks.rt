@@ -1,8 +1,7 @@
 // The masks of a block's record, and its contexts.
 use block::Block;
 use mask_edges::mask_edges_chroma;
-use mask_edges::mask_edges_inter;
-use mask_edges::mask_edges_intra;
+use mask_edges::mask_edges_luma;
 use units::ChromaUnit;
 use units::LumaUnit;
 use units::chroma_unit;
@@ -16,7 +15,7 @@ ghost use Prim.Native.Nat.{_+_, _*_, _%_, _<_, _≤_};
 ghost use lib.ListN.{length};
 ghost use Rattle.units.specs.Frame.{frameRecords};
 ghost use Rattle.block.specs.Block.{w4, h4, bw4, bh4, cbw4, cbh4, seesLuma, seesChroma, Sides};
-ghost use Rattle.record.specs.Record.{recordAt, intraMasks, interMasks, chromaMasks, intraAbove, intraLeft, interAbove, interLeft, chromaAbove, chromaLeft, Fitting};
+ghost use Rattle.record.specs.Record.{recordAt, lumaMasks, chromaMasks, lumaAbove, lumaLeft, chromaAbove, chromaLeft, Fitting};
 
 fn record_at(b: Block) -> usize
     requires { ⌜ Sides b × (b .x .0 ≤ w4 b) × (b .y .0 ≤ h4 b) ⌝ }
@@ -26,28 +25,7 @@ fn record_at(b: Block) -> usize
 }
 
 // w by h units are visible.
-pub fn intra_masks(
-    masks: &mut [u16],
-    b: Block,
-    w: LumaUnit,
-    h: LumaUnit,
-    above: &mut [u8],
-    left: &mut [u8],
-)
-    requires { ⌜ Fitting b × (seesLuma b ≡ true) × (640 * frameRecords (w4 b) (h4 b) ≤ length (now masks)) × (bw4 b ≤ length (now above)) × (bh4 b ≤ length (now left))
-        × (w .0 ≡ bw4 b) × (h .0 ≡ bh4 b) ⌝ }
-    ensures masks { λ _. ⌜ now (masks .exit) ≡ intraMasks b (now (above .entry)) (now (left .entry)) (now (masks .entry)) ⌝ }
-    ensures above { λ _. ⌜ now (above .exit) ≡ intraAbove b (now (above .entry)) ⌝ }
-    ensures left { λ _. ⌜ now (left .exit) ≡ intraLeft b (now (left .entry)) ⌝ }
-{
-    let at = record_at(b);
-    let end = at + 640;
-    let by4 = LumaUnit(b.y.0 % 32);
-    let bx4 = LumaUnit(b.x.0 % 32);
-    mask_edges_intra(&mut masks[at..end], by4, bx4, w, h, b.tx, above, left);
-}
-
-pub fn inter_masks(
+pub fn luma_masks(
     masks: &mut [u16],
     b: Block,
     w: LumaUnit,
@@ -56,22 +34,23 @@ pub fn inter_masks(
     above: &mut [u8],
     left: &mut [u8],
 )
-    requires { ⌜ Fitting b × (b .inter ≡ true) × (seesLuma b ≡ true) × (640 * frameRecords (w4 b) (h4 b) ≤ length (now masks)) × (bw4 b ≤ length (now above))
-        × (bh4 b ≤ length (now left)) × (w .0 ≡ bw4 b) × (h .0 ≡ bh4 b) ⌝ }
-    ensures masks { λ _. ⌜ now (masks .exit) ≡ interMasks b (now («tx_masks» .entry)) (now (above .entry)) (now (left .entry)) (now (masks .entry)) ⌝ }
-    ensures above { λ _. ⌜ now (above .exit) ≡ interAbove b (now («tx_masks» .entry)) (now (above .entry)) ⌝ }
-    ensures left { λ _. ⌜ now (left .exit) ≡ interLeft b (now («tx_masks» .entry)) (now (left .entry)) ⌝ }
+    requires { ⌜ Fitting b × (seesLuma b ≡ true) × (640 * frameRecords (w4 b) (h4 b) ≤ length (now masks)) × (bw4 b ≤ length (now above)) × (bh4 b ≤ length (now left))
+        × (w .0 ≡ bw4 b) × (h .0 ≡ bh4 b) ⌝ }
+    ensures masks { λ _. ⌜ now (masks .exit) ≡ lumaMasks b (now («tx_masks» .entry)) (now (above .entry)) (now (left .entry)) (now (masks .entry)) ⌝ }
+    ensures above { λ _. ⌜ now (above .exit) ≡ lumaAbove b (now («tx_masks» .entry)) (now (above .entry)) ⌝ }
+    ensures left { λ _. ⌜ now (left .exit) ≡ lumaLeft b (now («tx_masks» .entry)) (now (left .entry)) ⌝ }
 {
     let at = record_at(b);
     let end = at + 640;
     let by4 = LumaUnit(b.y.0 % 32);
     let bx4 = LumaUnit(b.x.0 % 32);
-    mask_edges_inter(
+    mask_edges_luma(
         &mut masks[at..end],
         by4,
         bx4,
         w,
         h,
+        b.inter,
         b.skip,
         b.tx,
         tx_masks,
@@ -96,10 +75,10 @@ pub fn chroma_masks(
 {
     let at = record_at(b);
     let end = at + 640;
-    let hor = ss_hor(b.layout);
-    let ver = ss_ver(b.layout);
-    let cby4 = chroma_unit(LumaUnit(b.y.0 % 32), ver);
-    let cbx4 = chroma_unit(LumaUnit(b.x.0 % 32), hor);
+    let ss_hor = ss_hor(b.layout);
+    let ss_ver = ss_ver(b.layout);
+    let cby4 = chroma_unit(LumaUnit(b.y.0 % 32), ss_ver);
+    let cbx4 = chroma_unit(LumaUnit(b.x.0 % 32), ss_hor);
     mask_edges_chroma(
         &mut masks[at..end],
         cby4,
@@ -110,7 +89,7 @@ pub fn chroma_masks(
         b.uvtx,
         above,
         left,
-        hor,
-        ver,
+        ss_hor,
+        ss_ver,
     );
 }

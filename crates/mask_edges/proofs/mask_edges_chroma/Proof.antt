@@ -3,7 +3,7 @@ use Rattle.mask_edges.proofs.BlockPasses.{halves, chroma-low, grid-aske
 use Rattle.units.proofs.Rules.{tx-rule}
 use Rattle.units.specs.Sizes.{chromaClass}
 use native.Mathlib.Omega.{arith}
-use mathlib.Core.Bool.{true}
+use mathlib.Core.Bool.{true, false}
 use mathlib.Core.Path.{refl}
 use borrow.Author.Needs.{needs}
 use Rattle.mask_edges.proofs.mask_edges_chroma.Statement.{statement}
@@ -39,7 +39,7 @@ mask-grid-requires c κs =
     let w = tx-rule _ (c₁₀ .pre .1) in
     let k = halves (c₁₀ .args .ss-ver) (c₁₀ .pre .3) in
     let m = halves (c₁₀ .args .ss-hor) (c₁₀ .pre .2) in
-    grid-asked _ true _ 0 _ _ _ _ _ (c₄ .columns .ensures) (omega arith) k (omega (arith, r .width .1)) (r .height .1) (r .record-words) _ _ _
+    grid-asked _ false _ false _ _ _ _ _ (c₄ .columns .ensures) k (omega (arith, r .width .1)) (r .height .1) (r .record-words) _ _ _
     (rw (c .before .chroma-class .ensures) (chroma-low (c₆ .chroma-tx-wide .result .0))) (r .width .0) (rw (c₆ .chroma-tx-wide .ensures) (w .width .low))
     (r .left-units)
 
@@ -56,7 +56,7 @@ mask-grid-requires-2 c κs =
     let w = tx-rule _ (c₁₈ .pre .1) in
     let k = halves (c₁₈ .args .ss-hor) (c₁₈ .pre .2) in
     let m = halves (c₁₈ .args .ss-ver) (c₁₈ .pre .3) in
-    grid-asked _ true _ 1 _ _ _ _ _ (c₁₁ .rows .ensures) (omega arith) k (omega (arith, r .height .1)) (r .width .1)
+    grid-asked _ false _ true _ _ _ _ _ (c₁₁ .rows .ensures) k (omega (arith, r .height .1)) (r .width .1)
     (rw (c₇ .mask-grid .kept .0) (r .record-words)) _ _ _
     (rw (c .before .chroma-class2 .ensures) (chroma-low (c₁₃ .chroma-tx-high .result .0))) (r .height .0) (rw (c₁₃ .chroma-tx-high .ensures) (w .height .low))
     (r .above-units)

@@ -1,5 +1,5 @@
 -- Two passes over one transform's grid.
-use mathlib.Core.Bool.{false}
+use mathlib.Core.Bool.{true, false}
 use Rattle.mask_edges.proofs.BlockPasses.{grid-asked, grid-both, context-filled}
 use Rattle.units.specs.Sizes.{lumaClass}
 use native.Mathlib.Omega.{arith}
@@ -21,7 +21,7 @@ mask-grid-requires : tie.Need-mask-grid-requires
 mask-grid-requires c κs =
     let c₈ = c .before .before .before .before .before .before .before .before in
     let r = c₈ .pre .0 in
-    grid-asked _ false 16 0 _ _ _ _ _ (c .before .before .before .before .columns .ensures) (omega arith) (omega arith, omega arith) (r .width .1) (r .height .1) (r .record-words) _ _ _
+    grid-asked _ true 16 false _ _ _ _ _ (c .before .before .before .before .columns .ensures) (omega arith, omega arith) (r .width .1) (r .height .1) (r .record-words) _ _ _
     (omega (arith, c .before .luma-class .ensures)) (r .width .0) (c₈ .pre .1) (r .left-units)
 
 luma-class-requires-2 : tie.Need-luma-class-requires-2
@@ -33,7 +33,7 @@ mask-grid-requires-2 c κs =
     let c₁₁ = c₇ .before .before .before .before in
     let c₁₆ = c₁₁ .before .before .before .before .before in
     let r = c₁₆ .pre .0 in
-    grid-asked _ false 16 1 _ _ _ _ _ (c₁₁ .rows .ensures) (omega arith) (omega arith, omega arith) (r .height .1) (r .width .1)
+    grid-asked _ true 16 true _ _ _ _ _ (c₁₁ .rows .ensures) (omega arith, omega arith) (r .height .1) (r .width .1)
     (rw (c₇ .mask-grid .kept .0) (r .record-words)) _ _ _
     (omega (arith, c .before .luma-class2 .ensures)) (r .height .0) (c₁₆ .pre .2) (r .above-units)
 

@@ -39,8 +39,8 @@ returns : tie.Need-returns
 returns c = let z = ne-eqb (c .before .number .result) 0 (c .if1 .taken) in
     record { code = c .before .number .ensures; levels = rw z refl; masks = rw z refl; above = rw z refl; left = rw z refl; above-uv = rw z refl; left-uv = rw z refl }
 
-inter-luma-requires : tie.Need-inter-luma-requires
-inter-luma-requires c κs =
+luma-requires : tie.Need-luma-requires
+luma-requires c κs =
     let c₄ = c .before .before .before .before in
     let c₅ = c₄ .before in
     let c₁₈ = c₅ .before .before .before .before .before .before .before .before .before .before .before .before .before in
@@ -53,7 +53,6 @@ inter-luma-requires c κs =
       levels-long b (g .level-stride) m e .1,
       masks-long b (g .level-stride) m e,
       luma-long b (g .level-stride) m e,
-      refl,
     )
 
 chroma-pair-requires : tie.Need-chroma-pair-requires
@@ -66,7 +65,7 @@ chroma-pair-requires c κs =
     let b = interOf (g .width) (g .height) (g .layout) (g .x) (g .y) (g .size) (g .tx) (g .chroma) (g .uvtx) (g .skip) (g .reference) (g .mode) in
     let m = lent (now (g .levels)) (now (g .masks)) (now (g .above)) (now (g .left)) (now (g .above-uv)) (now (g .left-uv)) in
     let e : number b (g .level-stride) m ≡ 0 = sym (c₁₈ .number .ensures) ∙ c₁₇ .if1 .left in
-    let k = c₁₂ .inter-luma .kept in (
+    let k = c₁₂ .luma .kept in (
       sound b (g .level-stride) m e (reference-in b (g .level-stride) m e refl) (flag-low (g .mode)),
       levels-long b (g .level-stride) m e .0,
       omega (arith, k, levels-long b (g .level-stride) m e .1),
@@ -102,7 +101,7 @@ returns-2 c =
     let g = c₄₀ .args in
     let b = interOf (g .width) (g .height) (g .layout) (g .x) (g .y) (g .size) (g .tx) (g .chroma) (g .uvtx) (g .skip) (g .reference) (g .mode) in
     let m = lent (now (g .levels)) (now (g .masks)) (now (g .above)) (now (g .left)) (now (g .above-uv)) (now (g .left-uv)) in
-    let p = c₂₁ .inter-luma .ensures in
+    let p = c₂₁ .luma .ensures in
     let q = c₈ .chroma-pair .ensures in
     record {
       code = sym (c₂₆ .if1 .left) ∙ c₂₇ .number .ensures;
@@ -127,7 +126,7 @@ record-inter-spec =
     same-length-5
     same-length-6
     returns
-    inter-luma-requires
+    luma-requires
     chroma-pair-requires
     same-length-7
     same-length-8

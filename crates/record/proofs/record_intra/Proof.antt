@@ -36,15 +36,15 @@ returns : tie.Need-returns
 returns c = let z = ne-eqb (c .before .number .result) 0 (c .if1 .taken) in
     record { code = c .before .number .ensures; levels = rw z refl; masks = rw z refl; above = rw z refl; left = rw z refl; above-uv = rw z refl; left-uv = rw z refl }
 
-intra-luma-requires : tie.Need-intra-luma-requires
-intra-luma-requires c κs =
-    let c₄ = c .before .before .before .before in
-    let c₅ = c₄ .before in
-    let c₁₈ = c₅ .before .before .before .before .before .before .before .before .before .before .before .before .before in
-    let g = c₁₈ .args in
+luma-requires : tie.Need-luma-requires
+luma-requires c κs =
+    let c₅ = c .before .before .before .before .before in
+    let c₆ = c₅ .before in
+    let c₁₉ = c₆ .before .before .before .before .before .before .before .before .before .before .before .before .before in
+    let g = c₁₉ .args in
     let b = intraOf (g .width) (g .height) (g .layout) (g .x) (g .y) (g .size) (g .tx) (g .chroma) (g .uvtx) in
     let m = lent (now (g .levels)) (now (g .masks)) (now (g .above)) (now (g .left)) (now (g .above-uv)) (now (g .left-uv)) in
-    let e : number b (g .level-stride) m ≡ 0 = sym (c₅ .number .ensures) ∙ c₄ .if1 .left in (
+    let e : number b (g .level-stride) m ≡ 0 = sym (c₆ .number .ensures) ∙ c₅ .if1 .left in (
       sound b (g .level-stride) m e (omega arith) (omega arith),
       levels-long b (g .level-stride) m e .0,
       levels-long b (g .level-stride) m e .1,
@@ -55,14 +55,14 @@ intra-luma-requires c κs =
 chroma-pair-requires : tie.Need-chroma-pair-requires
 chroma-pair-requires c κs =
     let c₁₂ = c .before .before .before .before .before .before .before .before .before .before .before .before in
-    let c₁₇ = c₁₂ .before .before .before .before .before in
-    let c₁₈ = c₁₇ .before in
-    let c₃₁ = c₁₈ .before .before .before .before .before .before .before .before .before .before .before .before .before in
-    let g = c₃₁ .args in
+    let c₁₈ = c₁₂ .before .before .before .before .before .before in
+    let c₁₉ = c₁₈ .before in
+    let c₃₂ = c₁₉ .before .before .before .before .before .before .before .before .before .before .before .before .before in
+    let g = c₃₂ .args in
     let b = intraOf (g .width) (g .height) (g .layout) (g .x) (g .y) (g .size) (g .tx) (g .chroma) (g .uvtx) in
     let m = lent (now (g .levels)) (now (g .masks)) (now (g .above)) (now (g .left)) (now (g .above-uv)) (now (g .left-uv)) in
-    let e : number b (g .level-stride) m ≡ 0 = sym (c₁₈ .number .ensures) ∙ c₁₇ .if1 .left in
-    let k = c₁₂ .intra-luma .kept in (
+    let e : number b (g .level-stride) m ≡ 0 = sym (c₁₉ .number .ensures) ∙ c₁₈ .if1 .left in
+    let k = c₁₂ .luma .kept in (
       sound b (g .level-stride) m e (omega arith) (omega arith),
       levels-long b (g .level-stride) m e .0,
       omega (arith, k, levels-long b (g .level-stride) m e .1),
@@ -92,16 +92,16 @@ returns-2 : tie.Need-returns-2
 returns-2 c =
     let c₈ = c .before .before .before .before .before .before .before .before in
     let c₂₁ = c₈ .before .before .before .before .before .before .before .before .before .before .before .before .before in
-    let c₂₆ = c₂₁ .before .before .before .before .before in
-    let c₂₇ = c₂₆ .before in
-    let c₄₀ = c₂₇ .before .before .before .before .before .before .before .before .before .before .before .before .before in
-    let g = c₄₀ .args in
+    let c₂₇ = c₂₁ .before .before .before .before .before .before in
+    let c₂₈ = c₂₇ .before in
+    let c₄₁ = c₂₈ .before .before .before .before .before .before .before .before .before .before .before .before .before in
+    let g = c₄₁ .args in
     let b = intraOf (g .width) (g .height) (g .layout) (g .x) (g .y) (g .size) (g .tx) (g .chroma) (g .uvtx) in
     let m = lent (now (g .levels)) (now (g .masks)) (now (g .above)) (now (g .left)) (now (g .above-uv)) (now (g .left-uv)) in
-    let p = c₂₁ .intra-luma .ensures in
+    let p = c₂₁ .luma .ensures in
     let q = c₈ .chroma-pair .ensures in
     record {
-      code = sym (c₂₆ .if1 .left) ∙ c₂₇ .number .ensures;
+      code = sym (c₂₇ .if1 .left) ∙ c₂₈ .number .ensures;
       levels = q .0 ∙ ap (chromaLevels b (g .level-stride) (now (g .values))) (p .0);
       masks = q .1 .0 ∙ ap (chromaMasks b (now (g .above-uv)) (now (g .left-uv))) (p .1 .0);
       above = p .1 .1 .0;
@@ -122,7 +122,7 @@ record-intra-spec =
     same-length-5
     same-length-6
     returns
-    intra-luma-requires
+    luma-requires
     chroma-pair-requires
     same-length-7
     same-length-8

@@ -1,6 +1,7 @@
 -- The bit is that of the place in its half.
 use Rattle.mask_edges.proofs.Words.{bit-low, bit-high}
 use Rattle.bits.specs.Mark.{mark}
+use Rattle.plane.specs.Line.{passOf}
 use native.Mathlib.Omega.{arith}
 use denote.Ref.{now}
 use Prim.Native.Nat.{_+_}
@@ -30,7 +31,7 @@ returns c =
     let w = c .before .before .before .before .before .before .before .edge-word in
     let a = d .args in
     c .before .before .set-at .ensures ∙ ap (mark (now (a .masks)))
-    (bit-low (a .p .pass) (a .p .unit + a .u) (a .class) (a .p .chroma) (a .p .half) (w .result) (a .p .place + a .v) (w .ensures .0) (c .before .before .before .before .if1 .taken))
+    (bit-low (passOf (a .p .rowwise)) (a .p .unit + a .u) (a .class) (a .p .luma) (a .p .half) (w .result) (a .p .place + a .v) (w .ensures .0) (c .before .before .before .before .if1 .taken))
 
 add-set-at : tie.Need-add-set-at
 add-set-at c = search needs
@@ -47,7 +48,7 @@ returns-2 c =
     let w = c .before .before .before .before .before .before .before .before .edge-word in
     let a = d .args in
     c .before .before .set-at2 .ensures ∙ ap (mark (now (a .masks)))
-    (bit-high (a .p .pass) (a .p .unit + a .u) (a .class) (a .p .chroma) (a .p .half) (w .result) (a .p .place + a .v) (w .ensures .0)
+    (bit-high (passOf (a .p .rowwise)) (a .p .unit + a .u) (a .class) (a .p .luma) (a .p .half) (w .result) (a .p .place + a .v) (w .ensures .0)
     (c .before .before .before .before .before .if1 .left) (omega arith))
 
 pub set-edge-spec : {M : Type 1} → statement M

@@ -3,6 +3,7 @@ use Rattle.mask_edges.proofs.Halves.{run-top, halves-marks}
 use Rattle.mask_edges.proofs.Words.{bit-word, bit-in}
 use Rattle.mask_edges.specs.Folds.{bitIn}
 use Rattle.bits.specs.Mark.{Words}
+use Rattle.plane.specs.Line.{passOf}
 use denote.Ref.{now}
 use mathlib.Core.Path.{ap, _∙_}
 use Prim.Native.Nat.{ℕ, _+_, _/_, _%_, _^_}
@@ -72,8 +73,8 @@ returns c =
     (bitIn (a .p) (a .u) (a .class)) (λ i. omega (arith, c₁₇ .slice-known .given i)) (h .place) (h .half .1) (omega (arith, w .1, h .words)) (omega arith)
     (omega arith)
     (c₁₀ .low-half .ensures ∙ ap (λ (v : ℕ). v % 2 ^ a .p .half) r) (c₈ .high-half .ensures ∙ ap (λ (v : ℕ). v / 2 ^ a .p .half) r)
-    (λ v. bit-word (a .p .pass) (a .p .unit + a .u) (a .class) (a .p .chroma) (a .p .half) _ (a .p .place + v) (w .0))
-    (λ v l. lt-of-lt-of-le (bit-in (a .p .chroma) (a .p .half) (a .p .pass) (a .p .unit + a .u) (a .class) (a .p .place + v) (h .pass)
+    (λ v. bit-word (passOf (a .p .rowwise)) (a .p .unit + a .u) (a .class) (a .p .luma) (a .p .half) _ (a .p .place + v) (w .0))
+    (λ v l. lt-of-lt-of-le (bit-in (a .p .luma) (a .p .half) (passOf (a .p .rowwise)) (a .p .unit + a .u) (a .class) (a .p .place + v)
     (omega (arith, h .unit, c₁₈ .pre .2)) (c₁₈ .pre .1)
     (h .half .1) (omega (arith, h .place))) (h .words))
     (c₆ .set-half .ensures) (c .before .before .set-half2 .ensures)

@@ -6,6 +6,7 @@ use native.Mathlib.Nat.{add-zero, mul-le-mul-right}
 use native.Mathlib.Omega.{arith}
 use lib.ListN.{length, length-set}
 use borrow.Author.Needs.{needs}
+use Rattle.plane.specs.Line.{passOf}
 use Rattle.mask_edges.specs.Folds.{Edged}
 use Rattle.mask_edges.proofs.Words.{word-in, class-word, bit-at}
 use Rattle.mask_edges.proofs.LoopTurns.{edged-step}
@@ -23,7 +24,7 @@ abbrev μ-loop : tie.MeasureT-loop
 edge-word-requires : tie.Need-edge-word-requires Inv-loop μ-loop
 edge-word-requires c κs =
     let h = c .before .before .pre .0 in
-    (h .0 .pass, omega (arith, h .0 .unit, h .2), omega (arith, h .1))
+    (omega (arith, h .0 .unit, h .2), omega (arith, h .1))
 
 add-at : tie.Need-add-at Inv-loop μ-loop
 add-at c = omega (arith, c .edge-word .ensures .1, c .before .before .before .pre .1 .0)
@@ -67,11 +68,11 @@ set-in-requires c κs =
     let g = c .before .before .before .before .before .before .before .before .before .before .pre .1 in
     let l = c .before .before .before .before .before .loop in
     let k = c .before .before .least in
-    let w = word-in (a .p .pass) (a .p .unit) (k .result) (a .p .chroma) (h .0 .pass) (omega (arith, h .0 .unit, h .2)) (omega (arith, k .ensures, h .1)) in (
+    let w = word-in (passOf (a .p .rowwise)) (a .p .unit) (k .result) (a .p .luma) (omega (arith, h .0 .unit, h .2)) (omega (arith, k .ensures, h .1)) in (
       omega (
         arith,
         w,
-        class-word (a .p .pass) (a .p .unit) (k .result) (a .p .chroma) 0,
+        class-word (passOf (a .p .rowwise)) (a .p .unit) (k .result) (a .p .luma) 0,
         c .before .before .before .before .before .before .before .edge-word .ensures .0,
         g .0,
         l .inv .1,
@@ -100,8 +101,8 @@ loop-again c =
       c .before .before .set-in .kept .0 ∙ l .inv .1,
       simp length-set (l .inv .2),
       λ x ms E. edged-step (a .p) (a .class) x ms (l .v) (c₅ .least .result) _ _ _ _ (l .inv .3 x ms E) (c₅ .least .ensures)
-          (rw (add-zero (a .p .unit)) (bit-at (a .p .pass) (a .p .unit) (c₅ .least .result) (a .p .chroma) (a .p .half) (c₁₀ .edge-word .result) (a .p .place + l .v)
-          (a .half) (c₁₀ .edge-word .ensures .0) (omega (arith, l .inv .0 .0, g .2)) (omega (arith, c₇ .loop-test .taken, g .3))))
+          (rw (add-zero (a .p .unit)) (bit-at (passOf (a .p .rowwise)) (a .p .unit) (c₅ .least .result) (a .p .luma) (a .p .half) (c₁₀ .edge-word .result)
+          (a .p .place + l .v) (a .half) (c₁₀ .edge-word .ensures .0) (omega (arith, l .inv .0 .0, g .2)) (omega (arith, c₇ .loop-test .taken, g .3))))
           (c .before .before .set-in .ensures),
     )
 

@@ -1,20 +1,31 @@
--- Two passes over the cells that the split fills; or, where nothing is split, the block of one transform, which is recorded the same.
+-- Two passes over the cells that the split of an inter block fills; or, where nothing is split, the block of one transform, which is recorded the same.
 use Rattle.mask_edges.proofs.BlockPasses.{cells-asked, cells-both, context-taken}
 use Rattle.mask_edges.proofs.CellTables.{from-zeros, told-columns, told-rows}
-use Rattle.mask_edges.proofs.Whole.{whole-at, whole-masks, whole-above, whole-left}
+use Rattle.mask_edges.proofs.Whole.{whole-at, split-inter, whole-luma}
 use Rattle.mask_edges.specs.Folds.{stores}
+use Rattle.decomp.specs.Cells.{Covers}
 use Rattle.units.proofs.Rules.{tx-rule}
 use Rattle.units.specs.Sizes.{lumaClass}
 use Rattle.bits.specs.Mark.{Words}
 use lib.ListN.{getD}
 use denote.Ref.{now}
 use native.Mathlib.Omega.{arith}
-use mathlib.Core.Bool.{false}
-use mathlib.Core.Path.{ap, _∙_}
+use mathlib.Core.Bool.{true, false}
+use mathlib.Core.Path.{_≡_, ap, _∙_}
 use Prim.Native.Nat.{ℕ}
 use borrow.Author.Needs.{needs}
-use Rattle.mask_edges.proofs.mask_edges_inter.Statement.{statement}
-use Rattle.mask_edges.proofs.mask_edges_inter.Tie as tie
+use Rattle.mask_edges.proofs.mask_edges_luma.Statement.{statement}
+use Rattle.mask_edges.proofs.mask_edges_luma.Tie as tie
+
+-- only an inter block passes the test
+is-inter : (d : tie.Else1) → d .before .before .before .before .before .before .before .args .inter ≡ true
+is-inter d =
+    let g = d .before .before .before .before .before .before .before .args in
+    split-inter (g .inter) (g .tx) (g .w4 .0) (g .h4 .0) _ _ (getD (now (g .tx-masks)) 0 0) _ (d .before .is-whole .ensures) (d .if1 .left)
+
+covered : (d : tie.Else1)
+    → let g = d .before .before .before .before .before .before .before .args in Covers (g .tx) (g .w4 .0) (g .h4 .0)
+covered d = d .before .before .before .before .before .before .before .pre .2 (is-inter d)
 
 luma-tx-wide-requires : tie.Need-luma-tx-wide-requires
 luma-tx-wide-requires c κs = search needs
@@ -28,7 +39,7 @@ is-whole-requires c κs = search needs
 one-transform-requires : tie.Need-one-transform-requires
 one-transform-requires c κs =
     let p = c .before .before .before .before .before .before .before .before .before .before .pre in
-    let w = tx-rule _ (p .1 .code) in
+    let w = tx-rule _ (p .1) in
     (p .0, rw (c .before .before .before .before .before .before .luma-tx-wide .ensures) (w .width .low), rw (c .before .before .before .before .before .luma-tx-high .ensures) (w .height .low))
 
 same-length : tie.Need-same-length
@@ -50,18 +61,15 @@ returns c =
     let p = c₁₆ .before .pre in
     let w = c₁₁ .before .before .luma-tx-wide .ensures in
     let h = c₁₁ .before .luma-tx-high .ensures in
-    let s = whole-at (g .max-tx) (g .w4 .0) (g .h4 .0) _ _ (getD (now (g .tx-masks)) 0 0) _ (c₁₁ .is-whole .ensures) w h
+    let s = whole-at (g .inter) (g .tx) (g .w4 .0) (g .h4 .0) _ _ (getD (now (g .tx-masks)) 0 0) _ (c₁₁ .is-whole .ensures) w h
     (c .before .before .before .before .before .before .before .before .before .before .if1 .taken) in
+    let W = whole-luma (now (g .tx-masks)) (g .tx) (g .w4 .0) (g .h4 .0) (g .by4 .0) (g .bx4 .0) (g .skip) (now (g .a)) (now (g .l)) (now (g .masks)) (p .0)
+    (λ i. omega (arith, c₁₆ .slice-known .given i)) (g .inter) (p .2) s in
     let E = c₆ .one-transform .ensures in (
-      E .0 _ w h ∙ whole-masks (now (g .tx-masks)) (g .max-tx) (g .w4 .0) (g .h4 .0) s (g .by4 .0) (g .bx4 .0) (g .skip) (now (g .a)) (now (g .l)) (now (g .masks)) (p .0)
-          (p .1) (λ i. omega (arith, c₁₆ .slice-known .given i)),
+      E .0 _ w h ∙ W .0,
       (
-        E .1 .0 ∙ ap (λ (k : ℕ). stores (g .w4 .0) (λ _. lumaClass k) (now (g .a))) h
-            ∙ whole-above (now (g .tx-masks)) (g .max-tx) (g .w4 .0) (g .h4 .0) s (g .by4 .0) (g .bx4 .0) (g .skip) (now (g .a)) (now (g .l)) (now (g .masks)) (p .0)
-            (p .1),
-        E .1 .1 ∙ ap (λ (k : ℕ). stores (g .h4 .0) (λ _. lumaClass k) (now (g .l))) w
-            ∙ whole-left (now (g .tx-masks)) (g .max-tx) (g .w4 .0) (g .h4 .0) s (g .by4 .0) (g .bx4 .0) (g .skip) (now (g .a)) (now (g .l)) (now (g .masks)) (p .0)
-            (p .1),
+        E .1 .0 ∙ ap (λ (k : ℕ). stores (g .w4 .0) (λ _. lumaClass k) (now (g .a))) h ∙ W .1,
+        E .1 .1 ∙ ap (λ (k : ℕ). stores (g .h4 .0) (λ _. lumaClass k) (now (g .l))) w ∙ W .2,
       ),
     )
 
@@ -69,7 +77,7 @@ slice-aggregate-decomp-block : tie.Need-slice-aggregate-decomp-block
 slice-aggregate-decomp-block c = search needs
 
 decomp-block-requires : tie.Need-decomp-block-requires
-decomp-block-requires c κs = search needs
+decomp-block-requires c κs = (search needs, covered (c .before))
 
 columns-requires : tie.Need-columns-requires
 columns-requires c κs = search needs
@@ -87,8 +95,8 @@ mask-cells-requires c κs =
     let c₁₅ = c₆ .before .before .before .before .before .before .before .before .before in
     let r = c₁₅ .pre .0 in
     let g = c₁₅ .args in
-    cells-asked _ false 16 0 _ _ _ _ _ (c₄ .columns .ensures) (omega arith) (omega arith, omega arith) (r .width .1) (r .height .1) (r .record-words) _ _
-    (told-columns (g .by4 .0) (g .bx4 .0) _ _ _ (g .skip) (now (g .tx-masks)) (now (g .a)) (now (g .l)) (c₁₅ .pre .1) _ _
+    cells-asked _ true 16 false _ _ _ _ _ (c₄ .columns .ensures) (omega arith, omega arith) (r .width .1) (r .height .1) (r .record-words) _ _
+    (told-columns (g .by4 .0) (g .bx4 .0) _ _ _ (g .skip) (now (g .tx-masks)) (now (g .a)) (now (g .l)) (covered (c₆ .before .before)) _ _
     (from-zeros _ _ _ _ _ (c₆ .decomp-block .ensures)) (c₄ .columns .ensures)) (r .width .0) (r .left-units)
 
 slice-aggregate-mask-cells-2 : tie.Need-slice-aggregate-mask-cells-2
@@ -102,9 +110,9 @@ mask-cells-requires-2 c κs =
     let c₂₃ = c₁₄ .before .before .before .before .before .before .before .before .before in
     let r = c₂₃ .pre .0 in
     let g = c₂₃ .args in
-    cells-asked _ false 16 1 _ _ _ _ _ (c₁₁ .rows .ensures) (omega arith) (omega arith, omega arith) (r .height .1) (r .width .1)
+    cells-asked _ true 16 true _ _ _ _ _ (c₁₁ .rows .ensures) (omega arith, omega arith) (r .height .1) (r .width .1)
     (rw (c₇ .mask-cells .kept .0) (r .record-words)) _ _
-    (told-rows (g .by4 .0) (g .bx4 .0) _ _ _ (g .skip) (now (g .tx-masks)) (now (g .a)) (now (g .l)) (c₂₃ .pre .1) _ _
+    (told-rows (g .by4 .0) (g .bx4 .0) _ _ _ (g .skip) (now (g .tx-masks)) (now (g .a)) (now (g .l)) (covered (c₁₄ .before .before)) _ _
     (from-zeros _ _ _ _ _ (c₁₄ .decomp-block .ensures)) (c₁₁ .rows .ensures)) (r .height .0) (r .above-units)
 
 same-length-4 : tie.Need-same-length-4
@@ -123,7 +131,8 @@ returns-2 c =
     let c₁₆ = c₁₂ .before .before .before .before in
     let c₁₇ = c₁₆ .before in
     let c₁₉ = c₁₇ .before .before in
-    let z = from-zeros _ _ _ _ _ (c₁₉ .decomp-block .ensures) in (
+    let z = from-zeros _ _ _ _ _ (c₁₉ .decomp-block .ensures) in
+    rw (is-inter (c₁₉ .before .before)) (
       cells-both _ _ _ _ _ _ _ _ _ _ _ _ (c₁₇ .columns .ensures) (c₁₆ .rows .ensures) z (c₁₂ .mask-cells .ensures .0) (c₄ .mask-cells2 .ensures .0),
       (
         context-taken _ _ _ _ (c₁₆ .rows .ensures) z _ _ (c₄ .mask-cells2 .ensures .1),
@@ -132,8 +141,8 @@ returns-2 c =
       ),
     )
 
-pub mask-edges-inter-spec : {M : Type 1} → statement M
-mask-edges-inter-spec =
+pub mask-edges-luma-spec : {M : Type 1} → statement M
+mask-edges-luma-spec =
     tie.close
     (tie.spec
     luma-tx-wide-requires

@@ -9,10 +9,10 @@ use lib.ListN.{length}
 use lib.Seq.{length-take-le}
 use Rattle.block.specs.Block.{bw4, bh4, seesLuma}
 use Rattle.block.proofs.TestsPassed.{seen-as}
-use Rattle.record.proofs.NearBlocks.{inter-near, context-put}
+use Rattle.record.proofs.NearBlocks.{luma-near, context-put}
 use borrow.Author.Needs.{needs}
-use Rattle.record.proofs.inter_luma.Statement.{statement}
-use Rattle.record.proofs.inter_luma.Tie as tie
+use Rattle.record.proofs.luma.Statement.{statement}
+use Rattle.record.proofs.luma.Tie as tie
 
 sees : (d : tie.Else1) → seesLuma (d .before .before .before .before .before .before .before .before .args .b) ≡ true
 sees d =
@@ -46,33 +46,32 @@ luma-levels-requires c κs =
     let a = d .before .before .before .before .before .before .before .before in
     (a .pre .0, sees d, a .pre .1, a .pre .2, d .before .before .before .luma-wide .ensures, d .before .before .luma-high .ensures)
 
-slice-relend-prefix-inter-masks : tie.Need-slice-relend-prefix-inter-masks
-slice-relend-prefix-inter-masks c = room (c .before .before .before .before .before) .0
+slice-relend-prefix-luma-masks : tie.Need-slice-relend-prefix-luma-masks
+slice-relend-prefix-luma-masks c = room (c .before .before .before .before .before) .0
 
-slice-aggregate-inter-masks : tie.Need-slice-aggregate-inter-masks
-slice-aggregate-inter-masks c =
+slice-aggregate-luma-masks : tie.Need-slice-aggregate-luma-masks
+slice-aggregate-luma-masks c =
     let c₆ = c .before .before .before .before .before .before in
     let c₁₄ = c₆ .before .before .before .before .before .before .before .before in
     sym (length-take-le _ (now (c₁₄ .args .above)) (room (c₆) .0))
 
-slice-relend-prefix-inter-masks-2 : tie.Need-slice-relend-prefix-inter-masks-2
-slice-relend-prefix-inter-masks-2 c = room (c .before .before .before .before .before .before) .1
+slice-relend-prefix-luma-masks-2 : tie.Need-slice-relend-prefix-luma-masks-2
+slice-relend-prefix-luma-masks-2 c = room (c .before .before .before .before .before .before) .1
 
-slice-aggregate-inter-masks-2 : tie.Need-slice-aggregate-inter-masks-2
-slice-aggregate-inter-masks-2 c =
+slice-aggregate-luma-masks-2 : tie.Need-slice-aggregate-luma-masks-2
+slice-aggregate-luma-masks-2 c =
     let c₇ = c .before .before .before .before .before .before .before in
     let c₁₅ = c₇ .before .before .before .before .before .before .before .before in
     sym (length-take-le _ (now (c₁₅ .args .left)) (room (c₇) .1))
 
-inter-masks-requires : tie.Need-inter-masks-requires
-inter-masks-requires c κs =
+luma-masks-requires : tie.Need-luma-masks-requires
+luma-masks-requires c κs =
     let d = c .before .before .before .before .before .before .before in
     let a = d .before .before .before .before .before .before .before .before in
     let r = room d in
     let w = d .before .before .before .luma-wide .ensures in
     let h = d .before .before .luma-high .ensures in (
       a .pre .0 .fits,
-      a .pre .5,
       sees d,
       a .pre .3,
       le-of-eq (sym (length-take-le _ (now (a .args .above)) (r .0) ∙ w)),
@@ -102,16 +101,16 @@ returns-2 c =
     let n = d .before .before .before .before .before .before .before .before .pre .4 (sees d) in
     let w = d .before .before .before .luma-wide .ensures in
     let h = d .before .before .luma-high .ensures in
-    let e = c₆ .inter-masks .ensures in (
+    let e = c₆ .luma-masks .ensures in (
       c₁₂ .luma-levels .ensures,
       (
-        e .0 ∙ inter-near (a .b) _ _ (now (a .above)) (now (a .left)) (now (a .masks)) (now (a .tx-masks)) w h,
+        e .0 ∙ luma-near (a .b) _ _ (now (a .above)) (now (a .left)) (now (a .masks)) (now (a .tx-masks)) w h,
         (context-put (seesLuma (a .b)) _ _ _ (now (a .above)) w (n .0) (e .1 .0), context-put (seesLuma (a .b)) _ _ _ (now (a .left)) h (n .1) (e .1 .1)),
       ),
     )
 
-pub inter-luma-spec : {M : Type 1} → statement M
-inter-luma-spec =
+pub luma-spec : {M : Type 1} → statement M
+luma-spec =
     tie.close
     (tie.spec
     luma-wide-requires
@@ -119,11 +118,11 @@ inter-luma-spec =
     seen-requires
     returns
     luma-levels-requires
-    slice-relend-prefix-inter-masks
-    slice-aggregate-inter-masks
-    slice-relend-prefix-inter-masks-2
-    slice-aggregate-inter-masks-2
-    inter-masks-requires
+    slice-relend-prefix-luma-masks
+    slice-aggregate-luma-masks
+    slice-relend-prefix-luma-masks-2
+    slice-aggregate-luma-masks-2
+    luma-masks-requires
     same-length
     same-length-2
     same-length-3
