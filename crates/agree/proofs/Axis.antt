@@ -13,7 +13,7 @@ use borrow.Author.Tests.{eq-eqb, ne-eqb}
 use Rattle.standard.specs.Sizes.{planeSide}
 use Rattle.units.specs.Units.{chromaUnit, chromaUnits}
 use Rattle.units.specs.Sizes.{log2, Side}
-use Rattle.agree.specs.Legal.{Placed}
+use Rattle.agree.specs.Legal.{PlacedSide}
 
 -- ---- where the standard looks
 
@@ -81,7 +81,7 @@ module _ (n : ℕ) (s : Side n 32) where
 
   module _ (at : ℕ) where
     -- which divides the place
-    pub divides : (ss : ℕ) → Placed ss n at → chromaUnit ss at % chromaUnits ss n ≡ 0
+    pub divides : (ss : ℕ) → PlacedSide ss n at → chromaUnit ss at % chromaUnits ss n ≡ 0
     divides zero p = ap₂ (λ (a b : ℕ). a % b) (omega arith) (omega arith) ∙ p .multiple
     divides (suc zero) p = ⊎-elim (λ e. rw e (mod-one (at / 2))) halved (even n 32 s)
       where
@@ -93,7 +93,7 @@ module _ (n : ℕ) (s : Side n 32) where
     divides (suc (suc k)) p = absurd (omega (arith, p .sub))
 
     -- the block covers the odd luma unit
-    pub covered : (ss : ℕ) → Placed ss n at → (x : ℕ) → x < chromaUnits ss n
+    pub covered : (ss : ℕ) → PlacedSide ss n at → (x : ℕ) → x < chromaUnits ss n
         → (at ≤ bitOr ((chromaUnit ss at + x) * 2 ^ ss) ss) × (bitOr ((chromaUnit ss at + x) * 2 ^ ss) ss < at + n)
     covered zero p x h = rw (owner 0 (at / 1 + x) (omega arith)) (omega arith)
     covered (suc zero) p x h = rw (owner 1 (at / 2 + x) (omega arith)) (⊎-elim one more (even n 32 s))
@@ -127,7 +127,7 @@ four-times a w =
     (λ e. eq-eqb _ 0 (mod-eq-zero-of-dvd (4 * w) (mul-dvd-mul-left w 4 (dvd-of-mod-eq-zero w e))) ∙ sym (eq-eqb (a % w) 0 e))
     (λ f. ne-eqb _ 0 (λ e. f (mod-eq-zero-of-dvd w (dvd-of-mul-dvd-mul-left w (omega arith) (dvd-of-mod-eq-zero (4 * w) e)))) ∙ sym (ne-eqb (a % w) 0 f))
 
-module _ (ss n at : ℕ) (s : Side n 32) (p : Placed ss n at) (x : ℕ) where
+module _ (ss n at : ℕ) (s : Side n 32) (p : PlacedSide ss n at) (x : ℕ) where
   test : (w : ℕ) → w ∣ chromaUnits ss n → eqb (4 * ((chromaUnit ss at + x) * 2 ^ ss) / 2 ^ ss % (4 * w)) 0 ≡ eqb (x % w) 0
   test w d =
       ap (λ (k : ℕ). eqb (k % (4 * w)) 0) (sample ss (chromaUnit ss at + x) (p .sub)) ∙ four-times (chromaUnit ss at + x) w

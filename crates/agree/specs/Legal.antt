@@ -3,7 +3,7 @@
 --   left, top            its place in a plane, in units of the plane
 --   blockWidth, blockHeight           its sides there
 --   rowAt y, colAt x     the luma place at which 7.14.1 visits the unit (x, y) of the block
---   Placed ss n at       a block of n luma units at `at` has its place in the plane
+--   PlacedSide ss n at   a block of n luma units at `at` has its place in the plane
 --   Legal D plane C      the frame D holds the block C, which has the plane
 --   classOf plane n      the class of a transform's side
 --   sideOf pass t        the side of a transform across the pass
@@ -55,15 +55,15 @@ module _ (D : Frame) (plane : ℕ) (C : Coded) where
   colAt x = (left + x) * 2 ^ D .sx plane
 
 -- a multiple of its size; and a block of one luma unit has a subsampled plane only from an odd place
-pub record Placed (ss n at : ℕ) : Type 0 where
+pub record PlacedSide (ss n at : ℕ) : Type 0 where
   pub sub : ss ≤ 1
   pub multiple : at % n ≡ 0
   pub has : ss ≡ 1 → n ≡ 1 → at % 2 ≡ 1
 
 pub record Legal (D : Frame) (plane : ℕ) (C : Coded) : Type 0 where
   pub code : C .MiSize < 22
-  pub across : Placed (D .sx plane) (lumaWidth C) (C .MiCol)
-  pub down : Placed (D .sy plane) (lumaHeight C) (C .MiRow)
+  pub across : PlacedSide (D .sx plane) (lumaWidth C) (C .MiCol)
+  pub down : PlacedSide (D .sy plane) (lumaHeight C) (C .MiRow)
   -- it covers its units; beyond the frame 7.14 asks nothing
   pub covers : (row col : ℕ) → (C .MiRow ≤ row) × (row < C .MiRow + lumaHeight C) → (C .MiCol ≤ col) × (col < C .MiCol + lumaWidth C)
       → (D .MiSize row col ≡ C .MiSize) × (D .Skip row col ≡ C .Skip) × (D .isIntra row col ≡ C .isIntra)

@@ -10,7 +10,8 @@ use Rattle.checks.specs.declared.Call.{Call}
 use Rattle.checks.specs.Call.{Lent, samples, callPass, ss-hor, Filtered, luma, chroma-u, chroma-v}
 use Rattle.checks.specs.Tests.{number}
 use Rattle.checks.proofs.TestsPassed.{sizes, proper}
-use Rattle.checks.proofs.Accepted.{accepted-depth, accepted-shape, accepted-lengths, accepted-row, accepted-level, accepted-sample, accepted-wide, accepted-high, accepted-keeps, accepted-masks}
+use Rattle.checks.proofs.Accepted.{accepted-depth, accepted-shape, accepted-lengths, accepted-row, accepted-level, accepted-sample}
+use Rattle.checks.proofs.Accepted.{accepted-wide, accepted-high, accepted-keeps, accepted-masks}
 use Rattle.apply.specs.Apply.{componentOf, Limits, tablesOf, Ready, Ready16}
 
 plane-le : (c : Call) {plane : ℕ} → Filtered c plane → plane ≤ 2

@@ -9,7 +9,7 @@
 --   passCall c                the pass of the call, over the three planes
 --   FilterAnswer              number and samples after a call
 --   callOf                    the call of these arguments
---   Filters                   the contract: the answer to a call that is lent these lists, its number, and the samples after it
+--   FilterLent                FilterAnswer of the lists that a call is lent, its number, and its samples after it
 --   swept, sweptIf            what is done to a plane, and to one of chroma
 --   Ready, Ready16            what that asks, and of samples of 16 bits
 use mathlib.Core.Bool.{Bool, cond}
@@ -103,8 +103,8 @@ callOf rowwise depth luma-stride chroma-stride level-stride width height layout 
       «level_stride» = level-stride;
     }
 
-abbrev pub Filters : Call → List ℕ → List ℕ → List ℕ → List ℕ → List ℕ → List ℕ → List ℕ → ℕ → List ℕ → List ℕ → List ℕ → Type 0
-Filters c luma u v levels masks e i r luma′ u′ v′ = FilterAnswer c (limits e i) (lent luma u v levels masks) r (three luma′ u′ v′)
+abbrev pub FilterLent : Call → List ℕ → List ℕ → List ℕ → List ℕ → List ℕ → List ℕ → List ℕ → ℕ → List ℕ → List ℕ → List ℕ → Type 0
+FilterLent c luma u v levels masks e i r luma′ u′ v′ = FilterAnswer c (limits e i) (lent luma u v levels masks) r (three luma′ u′ v′)
 
 -- ---- one plane
 

@@ -1,4 +1,5 @@
-// Columns and rows of one superblock row: `rav1d_loopfilter_sbrow_cols`, but for the tile correction, and `rav1d_loopfilter_sbrow_rows`.
+// Public: columns and rows of one superblock row, luma and chroma, at 8 and 16 bits. They are `rav1d_loopfilter_sbrow_cols`, but for the
+// tile correction, and `rav1d_loopfilter_sbrow_rows`.
 use checks::Call;
 use checks::faults::chroma_on;
 use checks::faults::stride_of;
@@ -15,7 +16,7 @@ ghost use mathlib.Core.Bool.{true, false};
 ghost use Rattle.filter.specs.Filter.{tables};
 ghost use Rattle.checks.specs.Call.{chromaOn, Shaped};
 ghost use Rattle.apply.specs.Promises.{Promises};
-ghost use Rattle.apply.specs.Apply.{componentOf, callOf, Filters, Ready, Ready16, swept, sweptIf};
+ghost use Rattle.apply.specs.Apply.{componentOf, callOf, FilterLent, Ready, Ready16, swept, sweptIf};
 
 fn call(
     rowwise: bool,
@@ -77,16 +78,8 @@ fn plane_8(
     requires { ⌜ (c .depth ≡ 8) × Ready c (tables (c .depth) (now levels) (now masks) (now e) (now i)) plane (now s) ⌝ }
     ensures { λ _. ⌜ now (s .exit) ≡ swept c (tables (c .depth) (now (levels .entry)) (now (masks .entry)) (now (e .entry)) (now (i .entry))) plane (now (s .entry)) ⌝ }
 {
-    filter::plane_8(
-        s,
-        component(c, plane),
-        c.rowwise,
-        c.row,
-        levels,
-        masks,
-        e,
-        i,
-    );
+    let p = component(c, plane);
+    filter::plane_8(s, p, c.rowwise, c.row, levels, masks, e, i);
 }
 
 fn chroma_8(
@@ -121,7 +114,7 @@ fn filter_8(
     i: &[u8; 64],
 ) -> u32
     requires { ⌜ c .depth ≡ 8 ⌝ }
-    ensures { λ r. ⌜ Filters c (now (luma .entry)) (now (u .entry)) (now (v .entry)) (now (levels .entry)) (now (masks .entry)) (now (e .entry)) (now (i .entry)) r
+    ensures { λ r. ⌜ FilterLent c (now (luma .entry)) (now (u .entry)) (now (v .entry)) (now (levels .entry)) (now (masks .entry)) (now (e .entry)) (now (i .entry)) r
         (now (luma .exit)) (now (u .exit)) (now (v .exit)) ⌝ }
 {
     let n = number_8(c, luma, u, v, levels, masks);
@@ -152,7 +145,7 @@ pub fn columns_8(
     level_v: u32,
     row: u32,
 ) -> u32
-    ensures { λ r. ⌜ Filters (callOf false 8 «luma_stride» «chroma_stride» «level_stride» width height layout superblock «level_u» «level_v» row)
+    ensures { λ r. ⌜ FilterLent (callOf false 8 «luma_stride» «chroma_stride» «level_stride» width height layout superblock «level_u» «level_v» row)
         (now (luma .entry)) (now (u .entry)) (now (v .entry)) (now (levels .entry)) (now (masks .entry)) (now (e .entry)) (now (i .entry)) r
         (now (luma .exit)) (now (u .exit)) (now (v .exit)) ⌝ }
 {
@@ -192,7 +185,7 @@ pub fn rows_8(
     level_v: u32,
     row: u32,
 ) -> u32
-    ensures { λ r. ⌜ Filters (callOf true 8 «luma_stride» «chroma_stride» «level_stride» width height layout superblock «level_u» «level_v» row)
+    ensures { λ r. ⌜ FilterLent (callOf true 8 «luma_stride» «chroma_stride» «level_stride» width height layout superblock «level_u» «level_v» row)
         (now (luma .entry)) (now (u .entry)) (now (v .entry)) (now (levels .entry)) (now (masks .entry)) (now (e .entry)) (now (i .entry)) r
         (now (luma .exit)) (now (u .exit)) (now (v .exit)) ⌝ }
 {
@@ -225,17 +218,8 @@ fn plane_16(
     requires { ⌜ Ready16 c (tables (c .depth) (now levels) (now masks) (now e) (now i)) plane (now s) ⌝ }
     ensures { λ _. ⌜ now (s .exit) ≡ swept c (tables (c .depth) (now (levels .entry)) (now (masks .entry)) (now (e .entry)) (now (i .entry))) plane (now (s .entry)) ⌝ }
 {
-    filter::plane_16(
-        s,
-        component(c, plane),
-        c.rowwise,
-        c.row,
-        levels,
-        masks,
-        e,
-        i,
-        c.depth,
-    );
+    let p = component(c, plane);
+    filter::plane_16(s, p, c.rowwise, c.row, levels, masks, e, i, c.depth);
 }
 
 fn chroma_16(
@@ -269,7 +253,7 @@ fn filter_16(
     e: &[u8; 64],
     i: &[u8; 64],
 ) -> u32
-    ensures { λ r. ⌜ Filters c (now (luma .entry)) (now (u .entry)) (now (v .entry)) (now (levels .entry)) (now (masks .entry)) (now (e .entry)) (now (i .entry)) r
+    ensures { λ r. ⌜ FilterLent c (now (luma .entry)) (now (u .entry)) (now (v .entry)) (now (levels .entry)) (now (masks .entry)) (now (e .entry)) (now (i .entry)) r
         (now (luma .exit)) (now (u .exit)) (now (v .exit)) ⌝ }
 {
     let n = number_16(c, luma, u, v, levels, masks);
@@ -301,7 +285,7 @@ pub fn columns_16(
     level_v: u32,
     row: u32,
 ) -> u32
-    ensures { λ r. ⌜ Filters (callOf false depth «luma_stride» «chroma_stride» «level_stride» width height layout superblock «level_u» «level_v» row)
+    ensures { λ r. ⌜ FilterLent (callOf false depth «luma_stride» «chroma_stride» «level_stride» width height layout superblock «level_u» «level_v» row)
         (now (luma .entry)) (now (u .entry)) (now (v .entry)) (now (levels .entry)) (now (masks .entry)) (now (e .entry)) (now (i .entry)) r
         (now (luma .exit)) (now (u .exit)) (now (v .exit)) ⌝ }
 {
@@ -342,7 +326,7 @@ pub fn rows_16(
     level_v: u32,
     row: u32,
 ) -> u32
-    ensures { λ r. ⌜ Filters (callOf true depth «luma_stride» «chroma_stride» «level_stride» width height layout superblock «level_u» «level_v» row)
+    ensures { λ r. ⌜ FilterLent (callOf true depth «luma_stride» «chroma_stride» «level_stride» width height layout superblock «level_u» «level_v» row)
         (now (luma .entry)) (now (u .entry)) (now (v .entry)) (now (levels .entry)) (now (masks .entry)) (now (e .entry)) (now (i .entry)) r
         (now (luma .exit)) (now (u .exit)) (now (v .exit)) ⌝ }
 {

@@ -1,4 +1,4 @@
-// Bits of words, and a list of words as a set of bits.
+// Bits of words; a list of words as a set of bits; the walk over a word's bits.
 ghost use mathlib.Core.Path.{_≡_};
 ghost use Prim.Native.Nat.{_+_, _-_, _/_, _^_, _≤_, _<_};
 ghost use lib.Bits.{bitAnd};

@@ -22,14 +22,14 @@ use Rattle.record.specs.Recorded.{Stored}
 use Rattle.record.proofs.Answers as record-calls
 use Rattle.record.proofs.Rooms.{luma-cut, chroma-cut}
 use Rattle.record.proofs.SoundBlocks.{fitting}
-use Rattle.covering.specs.Front.{Covers}
+use Rattle.covering.specs.Front.{CoversUnit}
 use Rattle.covering.specs.Standard.{Lies}
-use Rattle.covering.specs.Cover.{owns, seen, part, sees}
-use Rattle.drawn.specs.Calls.{atBlock, Call, Records, coded, lumaSeen, lumaState, chromaSeen, chromaState}
-use Rattle.drawn.specs.Run.{partIn, Draws, Same, Tallies}
+use Rattle.covering.specs.Cover.{owns, visibleSide, partOf, sees}
+use Rattle.drawn.specs.Calls.{atBlock, RecordCall, Records, coded, lumaSeen, lumaState, chromaSeen, chromaState}
+use Rattle.drawn.specs.Run.{partIn, DrawsBlock, Unchanged, Tallies}
 use Rattle.drawn.proofs.Calls.{Shape, luma-shape, chroma-place-is}
 use Rattle.drawn.proofs.Theorems as drawn
-use Rattle.blocks.specs.Laid.{Area, axisOf, blockIn, LumaLegal, ChromaLegal, LumaLong, ChromaLong}
+use Rattle.blocks.specs.Laid.{TileArea, axisOf, blockPart, LumaLegal, ChromaLegal, LumaLong, ChromaLong}
 
 and-turn : (a b : Bool) → (a && b) ≡ (b && a)
 and-turn true true = refl
@@ -42,7 +42,7 @@ put-long : (at : ℕ) (l a : List ℕ) → length a ≡ length (drop at l) → l
 put-long at l a e =
     length-append (take at l) a ∙ ap (λ (k : ℕ). length (take at l) + k) e ∙ sym (length-append (take at l) (drop at l)) ∙ ap length (take-append-drop at l)
 
-module _ (q : Call) (level-stride : ℕ) (m n : Lent) (R : Records level-stride q m n) where
+module _ (q : RecordCall) (level-stride : ℕ) (m n : Lent) (R : Records level-stride q m n) where
   abbrev b : Block
   b = q .block
 
@@ -66,32 +66,33 @@ module _ (q : Call) (level-stride : ℕ) (m n : Lent) (R : Records level-stride 
 
 -- ---- luma
 
-module _ (D : Frame) (level-stride : ℕ) (A : Area) (T : Tallies D 0 (lumaGrid (A .w4) (A .h4))) where
-  pub luma-draws : (q : Call) (m n : Lent) → Records level-stride q m n → LumaLegal D A q → LumaLong A m → seesLuma (q .block) ≡ true
-      → Draws D 0 (lumaGrid (A .w4) (A .h4)) (lumaSeen q m) (lumaState m) (lumaState n)
+module _ (D : Frame) (level-stride : ℕ) (A : TileArea) (T : Tallies D 0 (lumaGrid (A .w4) (A .h4))) where
+  pub luma-draws : (q : RecordCall) (m n : Lent) → Records level-stride q m n → LumaLegal D A q → LumaLong A m → seesLuma (q .block) ≡ true
+      → DrawsBlock D 0 (lumaGrid (A .w4) (A .h4)) (lumaSeen q m) (lumaState m) (lumaState n)
   luma-draws q m n R o h e =
       let c = luma-cut (q .block) (fits q level-stride m n R) e in
-      subst₂ (λ (x y : ℕ). Draws D 0 (lumaGrid x y) (lumaSeen q m) (lumaState m) (lumaState n)) (o .w4-is) (o .h4-is)
+      subst₂ (λ (x y : ℕ). DrawsBlock D 0 (lumaGrid x y) (lumaSeen q m) (lumaState m) (lumaState n)) (o .w4-is) (o .h4-is)
       (drawn.promises .luma D q level-stride m n R e (o .legal e) (o .shows e m) (T .right-ss) (T .down-ss) (omega (arith, c .0, o .w4-is, h .above)) (omega (arith, c .1, o .h4-is, h .left)))
 
-  pub luma-same : (q : Call) (m n : Lent) → Records level-stride q m n → LumaLegal D A q → seesLuma (q .block) ≡ false → Same (lumaGrid (A .w4) (A .h4)) (lumaState m) (lumaState n)
+  pub luma-same : (q : RecordCall) (m n : Lent) → Records level-stride q m n → LumaLegal D A q → seesLuma (q .block) ≡ false
+      → Unchanged (lumaGrid (A .w4) (A .h4)) (lumaState m) (lumaState n)
   luma-same q m n R o e =
-      subst₂ (λ (x y : ℕ). Same (lumaGrid x y) (lumaState m) (lumaState n)) (o .w4-is) (o .h4-is) (drawn.promises .luma-same q level-stride m n R e)
+      subst₂ (λ (x y : ℕ). Unchanged (lumaGrid x y) (lumaState m) (lumaState n)) (o .w4-is) (o .h4-is) (drawn.promises .luma-same q level-stride m n R e)
 
-  pub luma-stays : (q : Call) (m n : Lent) → Records level-stride q m n → LumaLegal D A q → LumaLong A m → LumaLong A n
+  pub luma-stays : (q : RecordCall) (m n : Lent) → Records level-stride q m n → LumaLegal D A q → LumaLong A m → LumaLong A n
   luma-stays q m n R o h =
       record { above = omega (arith, h .above, above-long q level-stride m n R); left = omega (arith, h .left, left-long q level-stride m n R) }
 
-  module _ (q : Call) (o : LumaLegal D A q) where
-    wide-is : seen (axisOf A 0 0 columns) (q .block .x .0) (blockWidth (q .block)) ≡ bw4 (q .block)
+  module _ (q : RecordCall) (o : LumaLegal D A q) where
+    wide-is : visibleSide (axisOf A 0 0 columns) (q .block .x .0) (blockWidth (q .block)) ≡ bw4 (q .block)
     unfolding bw4
     wide-is = omega (arith, o .w4-is)
 
-    high-is : seen (axisOf A 0 0 rows) (q .block .y .0) (blockHeight (q .block)) ≡ bh4 (q .block)
+    high-is : visibleSide (axisOf A 0 0 rows) (q .block .y .0) (blockHeight (q .block)) ≡ bh4 (q .block)
     unfolding bh4
     high-is = omega (arith, o .h4-is)
 
-    pub luma-sees : (d : Pass) → sees (axisOf A 0 0 d) (axisOf A 0 0 (other d)) (blockIn d (q .block)) ≡ seesLuma (q .block)
+    pub luma-sees : (d : Pass) → sees (axisOf A 0 0 d) (axisOf A 0 0 (other d)) (blockPart d (q .block)) ≡ seesLuma (q .block)
     luma-sees columns = ap₂ (λ (x y : ℕ). ltb 0 x && ltb 0 y) wide-is high-is
     luma-sees rows = ap₂ (λ (x y : ℕ). ltb 0 x && ltb 0 y) high-is wide-is ∙ and-turn (ltb 0 (bh4 (q .block))) (ltb 0 (bw4 (q .block)))
 
@@ -113,17 +114,18 @@ module _ (D : Frame) (level-stride : ℕ) (A : Area) (T : Tallies D 0 (lumaGrid 
       y-is : q .block .y .0 / 32 * 32 + lumaSeen q m .B .by4 ≡ chromaUnit 0 (q .block .y .0)
       y-is = omega (arith, S .by4-is, div-add-mod' (q .block .y .0) 32)
 
-      w-is : lumaSeen q m .B .w4 ≡ seen (axisOf A 0 0 columns) (q .block .x .0) (blockWidth (q .block))
+      w-is : lumaSeen q m .B .w4 ≡ visibleSide (axisOf A 0 0 columns) (q .block .x .0) (blockWidth (q .block))
       w-is = S .w4-is ∙ sym wide-is
 
-      h-is : lumaSeen q m .B .h4 ≡ seen (axisOf A 0 0 rows) (q .block .y .0) (blockHeight (q .block))
+      h-is : lumaSeen q m .B .h4 ≡ visibleSide (axisOf A 0 0 rows) (q .block .y .0) (blockHeight (q .block))
       h-is = S .h4-is ∙ sym high-is
 
-      pub luma-part : (d : Pass) → partIn (lumaGrid (A .w4) (A .h4)) d (lumaSeen q m) ≡ part (axisOf A 0 0 d) (axisOf A 0 0 (other d)) (blockIn d (q .block))
+      pub luma-part : (d : Pass) → partIn (lumaGrid (A .w4) (A .h4)) d (lumaSeen q m) ≡ partOf (axisOf A 0 0 d) (axisOf A 0 0 (other d)) (blockPart d (q .block))
       luma-part columns = λ i. record { at = x-is i; across = w-is i; from = y-is i; along = h-is i }
       luma-part rows = λ i. record { at = y-is i; across = h-is i; from = x-is i; along = w-is i }
 
-      pub luma-lies : (n : Lent) → Records level-stride q m n → seesLuma (q .block) ≡ true → (x y : ℕ) → Covers (partIn (lumaGrid (A .w4) (A .h4)) columns (lumaSeen q m)) x y → Lies D 0 x y
+      pub luma-lies : (n : Lent) → Records level-stride q m n → seesLuma (q .block) ≡ true → (x y : ℕ)
+          → CoversUnit (partIn (lumaGrid (A .w4) (A .h4)) columns (lumaSeen q m)) x y → Lies D 0 x y
       luma-lies n R e x y v =
           let zx = x-is ∙ ap (λ (s : ℕ). chromaUnit s (q .block .x .0)) (sym (T .right-ss)) in
           let zy = y-is ∙ ap (λ (s : ℕ). chromaUnit s (q .block .y .0)) (sym (T .down-ss)) in
@@ -146,43 +148,44 @@ module _ (D : Frame) (level-stride : ℕ) (A : Area) (T : Tallies D 0 (lumaGrid 
 
 -- ---- chroma
 
-module _ (D : Frame) (plane level-stride : ℕ) (A : Area) (sx sy : ℕ) (T : Tallies D plane (chromaGrid sx sy (A .w4) (A .h4))) where
+module _ (D : Frame) (plane level-stride : ℕ) (A : TileArea) (sx sy : ℕ) (T : Tallies D plane (chromaGrid sx sy (A .w4) (A .h4))) where
   abbrev G : Grid
   G = chromaGrid sx sy (A .w4) (A .h4)
 
   -- the call's own units are the plane's
-  grid-is : (q : Call) → ChromaLegal D plane A sx sy q → chromaGrid (ss-hor (q .block)) (ss-ver (q .block)) (w4 (q .block)) (h4 (q .block)) ≡ G
+  grid-is : (q : RecordCall) → ChromaLegal D plane A sx sy q → chromaGrid (ss-hor (q .block)) (ss-ver (q .block)) (w4 (q .block)) (h4 (q .block)) ≡ G
   grid-is q o = λ i. chromaGrid (o .sx-is i) (o .sy-is i) (o .w4-is i) (o .h4-is i)
 
   cut : (ss n m : ℕ) (b c : ℕ) → ss ≡ b → n ≡ c → chromaUnits ss n ≤ m → chromaUnits b c ≤ m
   cut ss n m b c e f h = subst₂ (λ (x y : ℕ). chromaUnits x y ≤ m) e f h
 
-  pub chroma-draws : (q : Call) (m n : Lent) → Records level-stride q m n → ChromaLegal D plane A sx sy q → ChromaLong A sx sy m → seesChroma (q .block) ≡ true
-      → Draws D plane G (chromaSeen q m) (chromaState m) (chromaState n)
+  pub chroma-draws : (q : RecordCall) (m n : Lent) → Records level-stride q m n → ChromaLegal D plane A sx sy q → ChromaLong A sx sy m → seesChroma (q .block) ≡ true
+      → DrawsBlock D plane G (chromaSeen q m) (chromaState m) (chromaState n)
   chroma-draws q m n R o h e =
       let c = chroma-cut (q .block) (fits q level-stride m n R) e in
       let u = cut sx (A .w4) (length (m .above-uv)) (ss-hor (q .block)) (w4 (q .block)) (sym (o .sx-is)) (sym (o .w4-is)) (h .above) in
       let v = cut sy (A .h4) (length (m .left-uv)) (ss-ver (q .block)) (h4 (q .block)) (sym (o .sy-is)) (sym (o .h4-is)) (h .left) in
-      subst (λ (H : Grid). Draws D plane H (chromaSeen q m) (chromaState m) (chromaState n)) (grid-is q o)
+      subst (λ (H : Grid). DrawsBlock D plane H (chromaSeen q m) (chromaState m) (chromaState n)) (grid-is q o)
       (drawn.promises .chroma D plane q level-stride m n R e (o .legal e) (o .shows e m) (T .right-ss ∙ sym (o .sx-is)) (T .down-ss ∙ sym (o .sy-is)) (omega (arith, c .0)) (omega (arith, c .1)))
 
-  pub chroma-same : (q : Call) (m n : Lent) → Records level-stride q m n → ChromaLegal D plane A sx sy q → seesChroma (q .block) ≡ false → Same G (chromaState m) (chromaState n)
-  chroma-same q m n R o e = subst (λ (H : Grid). Same H (chromaState m) (chromaState n)) (grid-is q o) (drawn.promises .chroma-same q level-stride m n R e)
+  pub chroma-same : (q : RecordCall) (m n : Lent) → Records level-stride q m n → ChromaLegal D plane A sx sy q → seesChroma (q .block) ≡ false
+      → Unchanged G (chromaState m) (chromaState n)
+  chroma-same q m n R o e = subst (λ (H : Grid). Unchanged H (chromaState m) (chromaState n)) (grid-is q o) (drawn.promises .chroma-same q level-stride m n R e)
 
-  pub chroma-stays : (q : Call) (m n : Lent) → Records level-stride q m n → ChromaLegal D plane A sx sy q → ChromaLong A sx sy m → ChromaLong A sx sy n
+  pub chroma-stays : (q : RecordCall) (m n : Lent) → Records level-stride q m n → ChromaLegal D plane A sx sy q → ChromaLong A sx sy m → ChromaLong A sx sy n
   chroma-stays q m n R o h =
       record { above = omega (arith, h .above, above-uv-long q level-stride m n R); left = omega (arith, h .left, left-uv-long q level-stride m n R) }
 
-  module _ (q : Call) (o : ChromaLegal D plane A sx sy q) where
-    wide-seen : seen (axisOf A sx sy columns) (q .block .x .0) (blockWidth (q .block)) ≡ cbw4 (q .block)
+  module _ (q : RecordCall) (o : ChromaLegal D plane A sx sy q) where
+    wide-seen : visibleSide (axisOf A sx sy columns) (q .block .x .0) (blockWidth (q .block)) ≡ cbw4 (q .block)
     unfolding cbw4
     wide-seen = ap₂ (λ (s w : ℕ). min (chromaUnits s w - chromaUnit s (q .block .x .0)) (chromaUnits s (blockWidth (q .block)))) (sym (o .sx-is)) (sym (o .w4-is))
 
-    high-seen : seen (axisOf A sx sy rows) (q .block .y .0) (blockHeight (q .block)) ≡ cbh4 (q .block)
+    high-seen : visibleSide (axisOf A sx sy rows) (q .block .y .0) (blockHeight (q .block)) ≡ cbh4 (q .block)
     unfolding cbh4
     high-seen = ap₂ (λ (s w : ℕ). min (chromaUnits s w - chromaUnit s (q .block .y .0)) (chromaUnits s (blockHeight (q .block)))) (sym (o .sy-is)) (sym (o .h4-is))
 
-    pub chroma-sees : (d : Pass) → sees (axisOf A sx sy d) (axisOf A sx sy (other d)) (blockIn d (q .block)) ≡ seesChroma (q .block)
+    pub chroma-sees : (d : Pass) → sees (axisOf A sx sy d) (axisOf A sx sy (other d)) (blockPart d (q .block)) ≡ seesChroma (q .block)
     chroma-sees columns = ap₂ _&&_ (sym (o .has)) (ap₂ (λ (x y : ℕ). ltb 0 x && ltb 0 y) wide-seen high-seen)
     chroma-sees rows =
         ap₂ _&&_ (and-turn (owns (axisOf A sx sy rows) (q .block .y .0) (blockHeight (q .block))) (owns (axisOf A sx sy columns) (q .block .x .0) (blockWidth (q .block))) ∙ sym (o .has))
@@ -197,17 +200,17 @@ module _ (D : Frame) (plane level-stride : ℕ) (A : Area) (sx sy : ℕ) (T : Ta
     chroma-y : q .block .y .0 / 32 * (32 / 2 ^ sy) + chromaUnit (ss-ver (q .block)) (q .block .y .0 % 32) ≡ chromaUnit sy (q .block .y .0)
     chroma-y = at-is (q .block .y .0) (ss-ver (q .block)) sy (o .sy-is) (ss-ver-le (q .block .layout))
 
-    chroma-w : cbw4 (q .block) ≡ seen (axisOf A sx sy columns) (q .block .x .0) (blockWidth (q .block))
+    chroma-w : cbw4 (q .block) ≡ visibleSide (axisOf A sx sy columns) (q .block .x .0) (blockWidth (q .block))
     chroma-w = sym wide-seen
 
-    chroma-h : cbh4 (q .block) ≡ seen (axisOf A sx sy rows) (q .block .y .0) (blockHeight (q .block))
+    chroma-h : cbh4 (q .block) ≡ visibleSide (axisOf A sx sy rows) (q .block .y .0) (blockHeight (q .block))
     chroma-h = sym high-seen
 
-    pub chroma-part : (m : Lent) (d : Pass) → partIn G d (chromaSeen q m) ≡ part (axisOf A sx sy d) (axisOf A sx sy (other d)) (blockIn d (q .block))
+    pub chroma-part : (m : Lent) (d : Pass) → partIn G d (chromaSeen q m) ≡ partOf (axisOf A sx sy d) (axisOf A sx sy (other d)) (blockPart d (q .block))
     chroma-part m columns = λ i. record { at = chroma-x i; across = chroma-w i; from = chroma-y i; along = chroma-h i }
     chroma-part m rows = λ i. record { at = chroma-y i; across = chroma-h i; from = chroma-x i; along = chroma-w i }
 
-    pub chroma-lies : (m : Lent) → seesChroma (q .block) ≡ true → (x y : ℕ) → Covers (partIn G columns (chromaSeen q m)) x y → Lies D plane x y
+    pub chroma-lies : (m : Lent) → seesChroma (q .block) ≡ true → (x y : ℕ) → CoversUnit (partIn G columns (chromaSeen q m)) x y → Lies D plane x y
     chroma-lies m e x y v =
         let zx = chroma-x ∙ ap (λ (s : ℕ). chromaUnit s (q .block .x .0)) (sym (T .right-ss)) in
         let zy = chroma-y ∙ ap (λ (s : ℕ). chromaUnit s (q .block .y .0)) (sym (T .down-ss)) in

@@ -6,9 +6,9 @@ use native.Mathlib.Omega.{arith}
 use Rattle.plane.specs.Line.{Pass, columns, rows}
 use Rattle.units.specs.Units.{chromaUnit, chromaUnits}
 use Rattle.edges.specs.Edges.{gridOf}
-use Rattle.covering.specs.Cover.{Sound}
+use Rattle.covering.specs.Cover.{SoundAxis}
 use Rattle.drawn.specs.Run.{wholeOf}
-use Rattle.blocks.specs.Laid.{Area, axisOf, tileIn, Whole}
+use Rattle.blocks.specs.Laid.{TileArea, axisOf, tileIn, WholeFrame}
 
 begins : (ss u : ℕ) → ss ≤ 1 → u ≡ 0 → chromaUnit ss u ≡ 0
 begins zero u h e = omega arith
@@ -20,7 +20,7 @@ ends zero all mi last h e m l = omega arith
 ends (suc zero) all mi last h e m l = omega arith
 ends (suc (suc s)) all mi last h e m l = absurd (omega arith)
 
-pub whole-tile : (A : Area) (luma : Bool) (sx sy : ℕ) → ((d : Pass) → Sound (axisOf A sx sy d)) → Whole A → (d : Pass)
+pub whole-tile : (A : TileArea) (luma : Bool) (sx sy : ℕ) → ((d : Pass) → SoundAxis (axisOf A sx sy d)) → WholeFrame A → (d : Pass)
     → tileIn A sx sy d ≡ wholeOf (gridOf luma sx sy (A .w4) (A .h4)) d
 whole-tile A luma sx sy S W = elim [ columns ↦ λ i. record { x0 = x0 i; x1 = x1 i; y0 = y0 i; y1 = y1 i } | rows ↦ λ i. record { x0 = y0 i; x1 = y1 i; y0 = x0 i; y1 = x1 i } ]
   where

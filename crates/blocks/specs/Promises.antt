@@ -10,22 +10,22 @@ use Rattle.edges.specs.Edges.{gridOf, lumaGrid, chromaGrid}
 use Rattle.block.specs.Block.{Lent}
 use Rattle.agree.specs.Legal.{classOf}
 use Rattle.covering.specs.Front.{Begins}
-use Rattle.covering.specs.Cover.{Sound}
-use Rattle.drawn.specs.Calls.{Call, lumaState, chromaState}
+use Rattle.covering.specs.Cover.{SoundAxis}
+use Rattle.drawn.specs.Calls.{RecordCall, lumaState, chromaState}
 use Rattle.drawn.specs.Run.{contextIn, Tallies, wholeOf}
-use Rattle.blocks.specs.Laid.{Calls, Area, axisOf, tileIn, Whole, Laid, LumaLegal, ChromaLegal, LumaLong, ChromaLong, Drawn}
+use Rattle.blocks.specs.Laid.{Calls, TileArea, axisOf, tileIn, WholeFrame, Laid, LumaLegal, ChromaLegal, LumaLong, ChromaLong, TileDrawn}
 
 pub record Promises : Type 0 where
   -- calls for legal blocks that cover a tile in order draw it in luma, in both passes, with contexts that hold the highest class along its lines
-  pub luma : (D : Frame) (level-stride : ℕ) (A : Area) (l : List Call) (m n : Lent) (start : ℕ) → Tallies D 0 (lumaGrid (A .w4) (A .h4)) → Calls level-stride l m n
+  pub luma : (D : Frame) (level-stride : ℕ) (A : TileArea) (l : List RecordCall) (m n : Lent) (start : ℕ) → Tallies D 0 (lumaGrid (A .w4) (A .h4)) → Calls level-stride l m n
       → All (LumaLegal D A) l → Laid A 0 0 l → LumaLong A m → ((k : ℕ) → classOf 0 k ≤ start)
       → ((d : Pass) → Begins start (tileIn A 0 0 d) (contextIn d (lumaState m)))
-      → Drawn D 0 (lumaGrid (A .w4) (A .h4)) A 0 0 (lumaState m) (lumaState n) start
+      → TileDrawn D 0 (lumaGrid (A .w4) (A .h4)) A 0 0 (lumaState m) (lumaState n) start
   -- and in chroma
-  pub chroma : (D : Frame) (plane level-stride : ℕ) (A : Area) (sx sy : ℕ) (l : List Call) (m n : Lent) (start : ℕ) → Tallies D plane (chromaGrid sx sy (A .w4) (A .h4))
+  pub chroma : (D : Frame) (plane level-stride : ℕ) (A : TileArea) (sx sy : ℕ) (l : List RecordCall) (m n : Lent) (start : ℕ) → Tallies D plane (chromaGrid sx sy (A .w4) (A .h4))
       → Calls level-stride l m n → All (ChromaLegal D plane A sx sy) l → Laid A sx sy l → ChromaLong A sx sy m → ((k : ℕ) → classOf plane k ≤ start)
       → ((d : Pass) → Begins start (tileIn A sx sy d) (contextIn d (chromaState m)))
-      → Drawn D plane (chromaGrid sx sy (A .w4) (A .h4)) A sx sy (chromaState m) (chromaState n) start
+      → TileDrawn D plane (chromaGrid sx sy (A .w4) (A .h4)) A sx sy (chromaState m) (chromaState n) start
   -- of an area that is the whole frame that tile is all of the frame's units, so that the frame is of one tile
-  pub whole : (A : Area) (luma : Bool) (sx sy : ℕ) → ((d : Pass) → Sound (axisOf A sx sy d)) → Whole A → (d : Pass)
+  pub whole : (A : TileArea) (luma : Bool) (sx sy : ℕ) → ((d : Pass) → SoundAxis (axisOf A sx sy d)) → WholeFrame A → (d : Pass)
       → tileIn A sx sy d ≡ wholeOf (gridOf luma sx sy (A .w4) (A .h4)) d

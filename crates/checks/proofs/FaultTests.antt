@@ -145,10 +145,12 @@ module _ (c : Call) where
         })
         (reflects-and reflects-inside
         (reflects-planes
-        (λ plane. levelsHigh (m .levels) (c .«level_stride») (areaOf c plane) (unitsOf (gridOf c plane) columns) (unitsOf (gridOf c plane) rows) (sbUnits (gridOf c plane) (sb4 c)) (passNo (callPass c)) (c .row))
-        (λ plane. LevelHigh (m .levels) (c .«level_stride») (areaOf c plane) (unitsOf (gridOf c plane) columns) (unitsOf (gridOf c plane) rows) (sbUnits (gridOf c plane) (sb4 c)) (passNo (callPass c)) (c .row))
-        (λ plane. scans.promises .eight (m .levels) (c .«level_stride») (areaOf c plane) (unitsOf (gridOf c plane) columns) (unitsOf (gridOf c plane) rows) (sbUnits (gridOf c plane) (sb4 c))
-        (passNo (callPass c)) (c .row))))
+        (λ plane. levelsHigh (m .levels) (c .«level_stride») (areaOf c plane) (unitsOf (gridOf c plane) columns) (unitsOf (gridOf c plane) rows)
+        (sbUnits (gridOf c plane) (sb4 c)) (passNo (callPass c)) (c .row))
+        (λ plane. LevelHigh (m .levels) (c .«level_stride») (areaOf c plane) (unitsOf (gridOf c plane) columns) (unitsOf (gridOf c plane) rows)
+        (sbUnits (gridOf c plane) (sb4 c)) (passNo (callPass c)) (c .row))
+        (λ plane. scans.promises .eight (m .levels) (c .«level_stride») (areaOf c plane) (unitsOf (gridOf c plane) columns) (unitsOf (gridOf c plane) rows)
+        (sbUnits (gridOf c plane) (sb4 c)) (passNo (callPass c)) (c .row))))
 
     module _ (plane : ℕ) (s : List ℕ) where
       abbrev width : ℕ

@@ -36,7 +36,8 @@ module _ (c : Call) where
 
   module _ (ls : List ℕ) where
     abbrev height : ℕ → Bool
-    height plane = levelsHigh ls (c .«level_stride») (areaOf c plane) (unitsOf (gridOf c plane) columns) (unitsOf (gridOf c plane) rows) (sbUnits (gridOf c plane) (sb4 c)) (passNo (callPass c)) (c .row)
+    height plane =
+        levelsHigh ls (c .«level_stride») (areaOf c plane) (unitsOf (gridOf c plane) columns) (unitsOf (gridOf c plane) rows) (sbUnits (gridOf c plane) (sb4 c)) (passNo (callPass c)) (c .row)
 
     luma-high : lumaLevelsHigh ls (c .«level_stride») (w4 c) (h4 c) (sb4 c) (callPass c) (c .row) ≡ height 0
     luma-high i = levelsHigh ls (c .«level_stride») (areaOf c 0) (units-0 (w4 c) i) (units-0 (h4 c) i) (unit-0 (sb4 c) i) (passNo (callPass c)) (c .row)

@@ -1,11 +1,11 @@
 -- What a call that passes a test has, and what the scans ask of it: the facts that the tests reflect, and `omega` at either size of superblocks.
 use mathlib.Core.Bool.{Bool, true, false, cond, not, _||_, false≢true}
 use mathlib.Core.Logic.{_⊎_, inl, inr, ⊎-elim}
-use mathlib.Core.Path.{_≡_, refl, sym, _∙_}
+use mathlib.Core.Path.{_≡_, refl}
 use Prim.Native.Nat.{ℕ, _*_, _<_, _≤_}
 use native.Mathlib.Omega.{arith}
 use lib.Dec.{eqb}
-use borrow.Author.Tests.{not-true, not-false, ltb-true}
+use borrow.Author.Tests.{not-false, ltb-true}
 use Rattle.loops.specs.Exactly.{Reflects}
 use Rattle.loops.proofs.Reflected.{reflects-eqb, reflects-or}
 use Rattle.loops.proofs.Tables.{each-at}
@@ -22,14 +22,6 @@ use Rattle.gap.specs.Fits.{MasksFit}
 use Rattle.checks.specs.declared.Call.{Call}
 use Rattle.checks.specs.Call.{w4, h4, sb4, ss-hor, ss-ver, gridOf, strideOf, Shaped, Roomy}
 use Rattle.checks.specs.Tests.{depthBad, shapeBad, lengthBad, inside}
-
--- ---- the code's tests, by the contract of what they call
-
-pub off : {r b : Bool} → r ≡ b → not r ≡ true → b ≡ false
-off {r} e h = sym e ∙ not-true r h
-
-pub on : {r b : Bool} → r ≡ b → not r ≡ false → b ≡ true
-on {r} e h = sym e ∙ not-false r h
 
 pub unmet : {P : Type 0} (b : Bool) → Reflects b P → ¬ P → b ≡ false
 unmet true r n = absurd (n (r .yes refl))

@@ -51,7 +51,8 @@ unfoldable pub levelsBad : Call → List ℕ → Bool
 levelsBad c ls =
     inside c
     && anyPlane c
-    (λ plane. levelsHigh ls (c .«level_stride») (areaOf c plane) (unitsOf (gridOf c plane) columns) (unitsOf (gridOf c plane) rows) (sbUnits (gridOf c plane) (sb4 c)) (passNo (callPass c)) (c .row))
+    (λ plane. levelsHigh ls (c .«level_stride») (areaOf c plane) (unitsOf (gridOf c plane) columns) (unitsOf (gridOf c plane) rows) (sbUnits (gridOf c plane) (sb4 c))
+    (passNo (callPass c)) (c .row))
 
 unfoldable pub planeBad : Call → ℕ → List ℕ → Bool
 planeBad c plane s =

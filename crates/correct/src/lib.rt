@@ -1,4 +1,4 @@
-// Tile correction: at a tile's first column and top row no edge has a class above its context's.
+// Public: the correction of masks at a tile's first column and top row, where no edge has a class above its context's.
 mod edge;
 mod number;
 mod place;

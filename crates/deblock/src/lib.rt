@@ -1,4 +1,4 @@
-// The calls for C and Rust: a slice is a pointer and a length, a table a pointer.
+// The calls for C and Rust, as an archive: a slice is a pointer and a length, a table a pointer.
 mod corrections;
 mod filtering;
 mod list;

@@ -1,5 +1,5 @@
-// The transforms of an inter block, told by four tables of 32 by 32 cells: class across, step across, class down, step down
-// (the Rust's txa[edge][txsz|step][y][x]).
+// The transforms of an inter block, split by recursion. Four tables of 32 by 32 cells tell them: class across, step across, class down,
+// step down (the Rust's txa[edge][txsz|step][y][x]).
 use units::LumaUnit;
 use units::sizes::luma_class;
 use units::sizes::luma_tx_high;

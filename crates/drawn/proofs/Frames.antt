@@ -16,8 +16,8 @@ use Rattle.units.specs.Units.{unitsOf, chromaUnits}
 use Rattle.edges.specs.Edges.{Grid, classes, inFrame, highest, edgeBit, edge}
 use Rattle.edges.specs.Edges as edges
 use Rattle.edges.proofs.Bits.{highest-one}
-use Rattle.covering.specs.Standard.{sideAt, rowOf, colOf, appliesAt, edgeIn}
-use Rattle.drawn.specs.Run.{edgeClass, Tallies}
+use Rattle.covering.specs.Standard.{sideAt, edgeClass, visitedRow, visitedCol, appliesAt, filteredEdge}
+use Rattle.drawn.specs.Run.{Tallies}
 
 -- no class is set
 highest-none : (n : ℕ) (set : ℕ → Bool) → ((c : ℕ) → c < n → set c ≡ false) → highest n set ≡ none
@@ -65,7 +65,7 @@ module _ (D : Frame) (plane : ℕ) (G : Grid) (A : Tallies D plane G) where
   sy-le = omega (arith, A .down-ss, A .proper .ss-ver-le)
 
   abbrev onScreen : Pass → Piece → Bool
-  onScreen d p = ltb (4 * colOf D plane d (p .1) (p .0)) (D .FrameWidth) && ltb (4 * rowOf D plane d (p .1) (p .0)) (D .FrameHeight)
+  onScreen d p = ltb (4 * visitedCol D plane d (p .1) (p .0)) (D .FrameWidth) && ltb (4 * visitedRow D plane d (p .1) (p .0)) (D .FrameHeight)
 
   screen : (x y : ℕ) → (ltb (4 * (x * 2 ^ D .sx plane)) (D .FrameWidth) && ltb (4 * (y * 2 ^ D .sy plane)) (D .FrameHeight))
       ≡ (ltb x (edges.unitsOf G columns) && ltb y (edges.unitsOf G rows))
@@ -90,7 +90,7 @@ module _ (D : Frame) (plane : ℕ) (G : Grid) (A : Tallies D plane G) where
   pub all-edges : (ms : List ℕ)
       → ((d : Pass) (p : Piece) → p .0 < edges.unitsOf G d → p .1 < edges.unitsOf G (other d) → (c : ℕ) → c < classes G
       → isSet ms (edgeBit G d p c) ≡ (appliesAt D plane d (p .1) (p .0) && eqb (edgeClass D plane d p) c))
-      → (d : Pass) (p : Piece) → edge G ms d p ≡ edgeIn D plane d (p .1) (p .0)
+      → (d : Pass) (p : Piece) → edge G ms d p ≡ filteredEdge D plane d (p .1) (p .0)
   unfolding edge
   all-edges ms h d p =
       by-cases (decLt (p .0) (edges.unitsOf G d))

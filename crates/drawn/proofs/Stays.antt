@@ -20,12 +20,12 @@ use Rattle.record.proofs.Answers as record-calls
 use Rattle.record.proofs.SoundBlocks.{fitting}
 use Rattle.record.specs.Record.{Fitting}
 use Rattle.agree.proofs.Marked.{no-unit}
-use Rattle.drawn.specs.Run.{contextIn, Same}
-use Rattle.drawn.specs.Calls.{atBlock, Call, Records, lumaState, chromaState, lumaUnits, chromaUnitsOf}
+use Rattle.drawn.specs.Run.{contextIn, Unchanged}
+use Rattle.drawn.specs.Calls.{atBlock, RecordCall, Records, lumaState, chromaState, lumaUnits, chromaUnitsOf}
 use Rattle.drawn.proofs.Calls.{luma-shape, no-chroma}
 use Rattle.drawn.proofs.Chromas.{no-luma}
 
-module _ (q : Call) (level-stride : ℕ) (m n : Lent) (R : Records level-stride q m n) where
+module _ (q : RecordCall) (level-stride : ℕ) (m n : Lent) (R : Records level-stride q m n) where
   abbrev K : Block
   K = q .block
 
@@ -35,7 +35,7 @@ module _ (q : Call) (level-stride : ℕ) (m n : Lent) (R : Records level-stride 
   fit : Fitting K
   fit = fitting K level-stride (atBlock K m) (sym (R .answer .code))
 
-  pub luma-same : seesLuma K ≡ false → Same (lumaUnits K) (lumaState m) (lumaState n)
+  pub luma-same : seesLuma K ≡ false → Unchanged (lumaUnits K) (lumaState m) (lumaState n)
   luma-same e = record { bits = bits; contexts = contexts }
     where
       B : recording.Block
@@ -67,7 +67,7 @@ module _ (q : Call) (level-stride : ℕ) (m n : Lent) (R : Records level-stride 
           ap (λ (x : Lent). getD (x .above) j 0) (R .now-is)
           ∙ ap (λ (x : List ℕ). getD (take (K .x .0) (m .above) ++ x) j 0) (kept .luma-stay e .0) ∙ ap (λ (x : List ℕ). getD x j 0) (take-append-drop (K .x .0) (m .above))
 
-  pub chroma-same : seesChroma K ≡ false → Same (chromaUnitsOf K) (chromaState m) (chromaState n)
+  pub chroma-same : seesChroma K ≡ false → Unchanged (chromaUnitsOf K) (chromaState m) (chromaState n)
   chroma-same e = record { bits = bits; contexts = contexts }
     where
       B : recording.Block

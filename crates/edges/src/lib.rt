@@ -1,4 +1,4 @@
-// The class of the edge at a unit, from the masks.
+// The edges that the masks of a frame hold: the bit of an edge, and its class.
 pub mod bit;
 
 use bits::test_bit;

@@ -1,43 +1,29 @@
 -- A plane keeps the rule over the whole frame where each call's look found it kept, and boundaries keep it with what is above them.
 use mathlib.Core.Path.{_≡_, refl}
-use mathlib.Core.Bool.{Bool, true, false, cond, and-eq-true-iff}
+use mathlib.Core.Bool.{Bool, true, false, cond}
 use mathlib.Core.List.{List, []}
 use mathlib.Core.Logic.{_⊎_, ⊎-elim, by-cases}
-use mathlib.Core.Option.{Option, some, none}
+use mathlib.Core.Option.{some}
 use Prim.Native.Nat.{ℕ, zero, suc, _+_, _*_, _/_, _%_, _^_, _≤_, _<_}
 use native.Mathlib.Decide.{decLt}
 use native.Mathlib.Nat.{div-add-mod', mod-lt, suc-mul}
 use native.Mathlib.Omega.{arith}
-use lib.Dec.{eqb, ltb}
-use borrow.Author.Tests.{ltb-true}
+use lib.Dec.{eqb}
 use Rattle.loops.proofs.Tables.{each-at}
 use Rattle.plane.specs.Gap.{GapRule}
-use Rattle.plane.specs.Line.{Pass, columns, rows, Piece, Change, Gives, other}
+use Rattle.plane.specs.Line.{Pass, columns, rows, Piece, Change, Gives}
 use Rattle.plane.specs.Plane.{Plane, luma, chroma, Kept, Boundary, end, right, down}
 use Rattle.units.specs.Frame.{records, superblocks}
 use Rattle.units.specs.Units.{chromaUnit, chromaUnits}
-use Rattle.edges.specs.Edges.{Proper, unitsOf, side, inFrame, edge}
+use Rattle.edges.specs.Edges.{Proper, unitsOf, side, edge}
 use Rattle.line.specs.Width.{four, six, eight, sixteen}
 use Rattle.line.proofs.Rules.{gives}
 use Rattle.walk.specs.Walk.{lenOf}
+use Rattle.gap.proofs.NumbersMean.{edge-in}
 use Rattle.filter.specs.declared.Component.{Component}
 use Rattle.filter.specs.Filter.{Tables, gridOf, changeAt, levelOf, planeOf}
 use Rattle.frames.specs.Whole.{RowsKeep, BoundariesKeep}
 use Rattle.frames.proofs.Wholes.{gap-whole}
-
--- ---- an edge lies in the frame
-
-edge-in : (b : Bool) (o : Option ℕ) (c : ℕ) → cond b o none ≡ some c → b ≡ true
-edge-in true o c e = refl
-edge-in false o c e = absurd (let z : _≡_ {A = ℕ} 0 1 = cc in omega arith)
-
-module _ (c : Component) (t : Tables) where
-  pub in-frame : (d : Pass) (p : Piece) (cls : ℕ) → edge (gridOf c) (t .masks) d p ≡ some cls
-      → (p .0 < unitsOf (gridOf c) d) × (p .1 < unitsOf (gridOf c) (other d))
-  unfolding edge
-  in-frame d p cls e =
-      let b = and-eq-true-iff (ltb (p .0) (unitsOf (gridOf c) d)) (ltb (p .1) (unitsOf (gridOf c) (other d))) .0 (edge-in (inFrame (gridOf c) d p) _ cls e) in
-      (ltb-true _ _ (b .0), ltb-true _ _ (b .1))
 
 -- ---- superblocks of units of a plane, by the two sizes at ss 0 and 1
 
@@ -99,8 +85,8 @@ module _ (c : Component) (t : Tables) (proper : Proper (gridOf c)) (size : Size 
     column-gap v =
         by-cases (decLt v (unitsOf (gridOf c) rows)) seen
         (λ n. record {
-          left = λ a b _ cls e. absurd (n (in-frame c t columns (a, v) cls e .1));
-          right = λ a b _ cls e. absurd (n (in-frame c t columns (b, v) cls e .1));
+          left = λ a b _ cls e. absurd (n (edge-in (gridOf c) (t .masks) columns (a, v) cls e .1));
+          right = λ a b _ cls e. absurd (n (edge-in (gridOf c) (t .masks) columns (b, v) cls e .1));
         })
       where
         seen : v < unitsOf (gridOf c) rows → GapRule (λ u. P .edge columns (u, v)) (Boundary P columns) (end P columns)
@@ -115,7 +101,7 @@ module _ (c : Component) (t : Tables) (proper : Proper (gridOf c)) (size : Size 
     row-gap b v =
         gap-whole (λ u. P .edge rows (u, v)) (P .sb) (P .height) pos (whole-rows (records (c .h4 .0)) (c .sb4 .0) (c .«ss_ver») size (proper .ss-ver-le))
         (λ k cls u e h.
-        let i = in-frame c t rows (k * P .sb + u, v) cls e in
+        let i = edge-in (gridOf c) (t .masks) rows (k * P .sb + u, v) cls e in
         keep .keeps rows k v (row-in-frame k u (c .h4 .0) (c .sb4 .0) (c .«ss_ver») size (proper .ss-ver-le) (i .0)) (i .1))
         (λ k a cls e n. let h = b .keeps v k a cls e n in search)
 
@@ -124,12 +110,12 @@ module _ (c : Component) (t : Tables) (proper : Proper (gridOf c)) (size : Size 
     gap b rows v = row-gap b v
 
     from-left : (d : Pass) (p : Piece) (cls : ℕ) → P .edge d p ≡ some cls → right d p < P .records * P .recordUnits
-    from-left columns p cls e = in-records (p .0) (c .w4 .0) (c .«ss_hor») (proper .ss-hor-le) (in-frame c t columns p cls e .0)
-    from-left rows p cls e = in-records (p .1) (c .w4 .0) (c .«ss_hor») (proper .ss-hor-le) (in-frame c t rows p cls e .1)
+    from-left columns p cls e = in-records (p .0) (c .w4 .0) (c .«ss_hor») (proper .ss-hor-le) (edge-in (gridOf c) (t .masks) columns p cls e .0)
+    from-left rows p cls e = in-records (p .1) (c .w4 .0) (c .«ss_hor») (proper .ss-hor-le) (edge-in (gridOf c) (t .masks) rows p cls e .1)
 
     from-top : (d : Pass) (p : Piece) (cls : ℕ) → P .edge d p ≡ some cls → down d p < P .sbs * P .sb
-    from-top columns p cls e = in-superblocks (p .1) (c .h4 .0) (c .sb4 .0) (c .«ss_ver») size (proper .ss-ver-le) (in-frame c t columns p cls e .1)
-    from-top rows p cls e = in-superblocks (p .0) (c .h4 .0) (c .sb4 .0) (c .«ss_ver») size (proper .ss-ver-le) (in-frame c t rows p cls e .0)
+    from-top columns p cls e = in-superblocks (p .1) (c .h4 .0) (c .sb4 .0) (c .«ss_ver») size (proper .ss-ver-le) (edge-in (gridOf c) (t .masks) columns p cls e .1)
+    from-top rows p cls e = in-superblocks (p .0) (c .h4 .0) (c .sb4 .0) (c .«ss_ver») size (proper .ss-ver-le) (edge-in (gridOf c) (t .masks) rows p cls e .0)
 
     pub kept : 4 * (P .records * P .recordUnits) ≤ P .stride → BoundariesKeep P → Kept P
     kept h b =

@@ -16,7 +16,7 @@ use Rattle.filter.specs.Filter.{Tables, planeOf, sweepOf}
 use Rattle.checks.specs.Call.{chromaOn, luma}
 use Rattle.checks.proofs.Accepted.{filtered-u, filtered-v}
 use Rattle.apply.specs.Apply.{shown}
-use Rattle.frames.specs.Within.{Within, Agree}
+use Rattle.frames.specs.Within.{WithinRow, Agree}
 use Rattle.frames.specs.Calls.{Frame, callAt, answer, after, planes}
 use Rattle.frames.specs.Promises.{Reaches}
 use Rattle.frames.proofs.Regions.{sweep-outside, sweep-inside}
@@ -25,7 +25,7 @@ use Rattle.frames.proofs.Stays.{Done, done, sweepCall, after-done, afte
 
 -- one plane, in a call that is done
 record Near (P : Plane) (w r : ℕ) (d : Pass) (k : ℕ) (s : List ℕ) (g : List ℕ → List ℕ) : Type 0 where
-  changes : (i : ℕ) → ¬ Within P w d k i → getD (g s) i 0 ≡ getD s i 0
+  changes : (i : ℕ) → ¬ WithinRow P w d k i → getD (g s) i 0 ≡ getD s i 0
   sees : (t : List ℕ) → Agree P r d k s t → Agree P r d k (g s) (g t)
 
 near : (c : Component) (t : Tables) (w r : ℕ) → ((cls : ℕ) → planeOf c t .widths .writes cls ≤ w) → ((cls : ℕ) → planeOf c t .widths .reads cls ≤ r)

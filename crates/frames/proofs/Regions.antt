@@ -20,12 +20,13 @@ use Rattle.plane.proofs.Gaps.{gap-close, after-start, before-end}
 use Rattle.plane.proofs.Pieces.{Fair, fair-luma, fair-chroma, inner-some, ruleAt, Writes, Reads, local-of, reads-piece}
 use Rattle.gap.specs.Numbers.{part}
 use Rattle.gap.specs.Promises.{Nowhere}
+use Rattle.gap.proofs.NumbersMean.{edge-in}
 use Rattle.filter.specs.declared.Component.{Component}
-use Rattle.filter.specs.Filter.{Tables, levelOf, planeOf, sweepOf}
+use Rattle.filter.specs.Filter.{Tables, gridOf, levelOf, planeOf, sweepOf}
 use Rattle.filter.specs.Ready.{Stored, Fit}
-use Rattle.frames.specs.Within.{Within, Agree}
+use Rattle.frames.specs.Within.{WithinRow, Agree}
 use Rattle.frames.proofs.Sweeps.{sweep-both}
-use Rattle.frames.proofs.GapKept.{Size, in-frame, by-size, in-records, class-gives}
+use Rattle.frames.proofs.GapKept.{Size, by-size, in-records, class-gives}
 
 pub fair : (b : Bool) → Fair (cond b luma chroma)
 fair true = fair-luma
@@ -54,7 +55,7 @@ module _ (c : Component) (t : Tables) (len : ℕ) (s : Stored c t len) (k : ℕ)
 
   far-columns : Fit c t columns k → (p : Piece) (cls : ℕ) → InRow P columns k p → 0 < p .0 → P .edge columns p ≡ some cls → Far columns (R cls) p
   far-columns f p cls r h e =
-      let i = in-frame c t columns p cls e in
+      let i = edge-in (gridOf c) (t .masks) columns p cls e in
       let w = in-records (p .0) (c .w4 .0) (c .«ss_hor») (s .proper .ss-hor-le) (i .0) in
       let to : p .1 < (k + 1) * P .sb = (let z : k + 1 ≡ suc k = omega arith in rw z (r .to)) in
       let g : Close (λ u. P .edge columns (u, p .1)) Nowhere (P .records * P .recordUnits) =
@@ -64,7 +65,7 @@ module _ (c : Component) (t : Tables) (len : ℕ) (s : Stored c t len) (k : ℕ)
   far-rows : Fit c t rows k → (p : Piece) (cls : ℕ) → InRow P rows k p → 0 < p .0 → P .edge rows p ≡ some cls → Far rows (R cls) p
   unfolding part
   far-rows f p cls r h e =
-      let i = in-frame c t rows p cls e in
+      let i = edge-in (gridOf c) (t .masks) rows p cls e in
       let u = p .0 - k * P .sb in
       let l : u < P .sb = omega (arith, r .from, r .to, suc-mul k (P .sb)) in
       let z : k * P .sb + u ≡ p .0 = omega (arith, r .from) in
@@ -110,7 +111,7 @@ module _ (c : Component) (t : Tables) (len : ℕ) (s : Stored c t len) (k : ℕ)
       room : (d : Pass) (p : Piece) (cls : ℕ) → class P d p ≡ some cls → Far d (R cls) p → Room d (P .stride) (R cls) p
       room columns p cls e x = omega (arith, s .stored-wide)
       room rows p cls e x =
-          let i = in-frame c t rows p cls (inner-some (p .0) (P .edge rows p) cls e .1) in
+          let i = edge-in (gridOf c) (t .masks) rows p cls (inner-some (p .0) (P .edge rows p) cls e .1) in
           omega (arith, s .stored-wide, in-records (p .1) (c .w4 .0) (c .«ss_hor») (s .proper .ss-hor-le) (i .1))
 
   -- a piece of the row is local
@@ -119,13 +120,13 @@ module _ (c : Component) (t : Tables) (len : ℕ) (s : Stored c t len) (k : ℕ)
 
   -- and stays about the row
   box-within : (d : Pass) → Fit c t d k → (p : Piece) → InRow P d k p → (cls : ℕ) → class P d p ≡ some cls → (n m i : ℕ) → n ≤ R cls → n ≤ m
-      → Box d (P .stride) n p i → Within P m d k i
+      → Box d (P .stride) n p i → WithinRow P m d k i
   box-within d f p r cls e n m i = go d p r e (far d f p cls r e)
     where
-      go : (d : Pass) (p : Piece) → InRow P d k p → class P d p ≡ some cls → Far d (R cls) p → n ≤ R cls → n ≤ m → Box d (P .stride) n p i → Within P m d k i
+      go : (d : Pass) (p : Piece) → InRow P d k p → class P d p ≡ some cls → Far d (R cls) p → n ≤ R cls → n ≤ m → Box d (P .stride) n p i → WithinRow P m d k i
       go columns p r e x a b w = record { right = omega (arith, w .right); from = omega (arith, w .from, r .from); to = omega (arith, w .below, r .to) }
       go rows p r e x a b w =
-          let j = in-frame c t rows p cls (inner-some (p .0) (P .edge rows p) cls e .1) in
+          let j = edge-in (gridOf c) (t .masks) rows p cls (inner-some (p .0) (P .edge rows p) cls e .1) in
           record {
             right = omega (arith, w .below, in-records (p .1) (c .w4 .0) (c .«ss_hor») (s .proper .ss-hor-le) (j .1));
             from = omega (arith, w .left, r .from);
@@ -133,20 +134,20 @@ module _ (c : Component) (t : Tables) (len : ℕ) (s : Stored c t len) (k : ℕ)
           }
 
   module _ (d : Pass) (f : Fit c t d k) (p : Piece) (r : InRow P d k p) (m : ℕ) where
-    reads-within : ((cls : ℕ) → R cls ≤ m) → (i : ℕ) → Reads P d p i → Within P m d k i
+    reads-within : ((cls : ℕ) → R cls ≤ m) → (i : ℕ) → Reads P d p i → WithinRow P m d k i
     reads-within h i b =
         let x = reads-piece P d p i b in
         let e : ruleAt P d p .reads ≡ R (x .0) = ap (λ o. ruleOf P d p o .reads) (x .1) in
         box-within d f p r (x .0) (x .1) (R (x .0)) m i (omega arith) (h (x .0)) (subst (λ n. Box d (P .stride) n p i) e b)
 
-    writes-within : ((cls : ℕ) → W cls ≤ m) → (i : ℕ) → Writes P d p i → Within P m d k i
+    writes-within : ((cls : ℕ) → W cls ≤ m) → (i : ℕ) → Writes P d p i → WithinRow P m d k i
     writes-within h i b =
         let x = reads-piece P d p i (local-row d f p r .within i b) in
         let e : ruleAt P d p .writes ≡ W (x .0) = ap (λ o. ruleOf P d p o .writes) (x .1) in
         box-within d f p r (x .0) (x .1) (W (x .0)) m i (width .fewer (x .0)) (h (x .0)) (subst (λ n. Box d (P .stride) n p i) e b)
 
     -- so it changes no sample farther than it writes
-    act-outside : ((cls : ℕ) → W cls ≤ m) → (l : List ℕ) (i : ℕ) → ¬ Within P m d k i → getD (act P d p l) i 0 ≡ getD l i 0
+    act-outside : ((cls : ℕ) → W cls ≤ m) → (l : List ℕ) (i : ℕ) → ¬ WithinRow P m d k i → getD (act P d p l) i 0 ≡ getD l i 0
     act-outside h l i n = local-row d f p r .outside l i (λ w. n (writes-within h i w))
 
     -- and sees none farther than it reads
@@ -161,7 +162,7 @@ module _ (c : Component) (t : Tables) (len : ℕ) (s : Stored c t len) (k : ℕ)
 
   -- so does the pass
   module _ (d : Pass) (f : Fit c t d k) (m : ℕ) where
-    pub sweep-outside : ((cls : ℕ) → W cls ≤ m) → (l : List ℕ) (i : ℕ) → ¬ Within P m d k i → getD (sweepOf P d k l) i 0 ≡ getD l i 0
+    pub sweep-outside : ((cls : ℕ) → W cls ≤ m) → (l : List ℕ) (i : ℕ) → ¬ WithinRow P m d k i → getD (sweepOf P d k l) i 0 ≡ getD l i 0
     sweep-outside h l i n = sweep-both P k (λ l′ _. getD l′ i 0 ≡ getD l i 0) d (λ p r l′ _ e. act-outside d f p r m h l′ i n ∙ e) l l refl
 
     pub sweep-inside : ((cls : ℕ) → R cls ≤ m) → (l l′ : List ℕ) → Agree P m d k l l′ → Agree P m d k (sweepOf P d k l) (sweepOf P d k l′)

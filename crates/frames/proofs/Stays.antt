@@ -30,7 +30,7 @@ use Rattle.checks.specs.Tests.{levelBad, depthBad, shapeBad, lengthBad, inside,
 use Rattle.checks.proofs.Accepted.{filtered-u, filtered-v}
 use Rattle.apply.specs.Apply.{componentOf, tablesOf, passCall}
 use Rattle.apply.proofs.ReadyPlanes.{ready, deep, under}
-use Rattle.frames.specs.Within.{Within}
+use Rattle.frames.specs.Within.{WithinRow}
 use Rattle.frames.specs.Calls.{Frame, callAt, lentOf, answer, planes, after}
 use Rattle.frames.proofs.Regions.{fair, sweep-outside}
 use Rattle.frames.proofs.Sweeps.{shown-case}
@@ -74,7 +74,7 @@ answer-alike f d j s t a =
 
 -- ---- what a pass that is done leaves
 
-dec-within : (P : Plane) (n : ℕ) (d : Pass) (k i : ℕ) → Dec (Within P n d k i)
+dec-within : (P : Plane) (n : ℕ) (d : Pass) (k i : ℕ) → Dec (WithinRow P n d k i)
 dec-within P n d k i =
     by-cases (decLt (i % P .stride) (4 * (P .records * P .recordUnits)))
     (λ a. by-cases (decLe (4 * (k * P .sb)) (i / P .stride + n * passNo d))
@@ -91,7 +91,7 @@ pub record Done (c : Component) (t : Tables) (d : Pass) (k : ℕ) (s : List ℕ)
 
 module _ (c : Component) (t : Tables) (d : Pass) (k : ℕ) (s : List ℕ) (o : Done c t d k s) (w : Words (t .masks)) where
   -- a sample that it looked at was in range, and is
-  looked : (i : ℕ) → Within (planeOf c t) 8 d k i → ltb (2 ^ t .depth - 1) (getD (sweepOf (planeOf c t) d k s) i 0) ≡ ltb (2 ^ t .depth - 1) (getD s i 0)
+  looked : (i : ℕ) → WithinRow (planeOf c t) 8 d k i → ltb (2 ^ t .depth - 1) (getD (sweepOf (planeOf c t) d k s) i 0) ≡ ltb (2 ^ t .depth - 1) (getD s i 0)
   looked i l =
       let e : i / c .stride * c .stride + i % c .stride ≡ i = div-add-mod' i (c .stride) in
       let z : k + 1 ≡ suc k = omega arith in
@@ -101,7 +101,7 @@ module _ (c : Component) (t : Tables) (d : Pass) (k : ℕ) (s : List ℕ) (o : D
       le-ltb (2 ^ t .depth - 1) (getD (sweepOf (planeOf c t) d k s) i 0) (omega arith) ∙ sym (le-ltb (2 ^ t .depth - 1) (getD s i 0) (omega arith))
 
   -- any other stays
-  not-looked : (i : ℕ) → ¬ Within (planeOf c t) 8 d k i → getD (sweepOf (planeOf c t) d k s) i 0 ≡ getD s i 0
+  not-looked : (i : ℕ) → ¬ WithinRow (planeOf c t) 8 d k i → getD (sweepOf (planeOf c t) d k s) i 0 ≡ getD s i 0
   not-looked = sweep-outside c t (length s) (o .stored) k d (o .fit) 8 few s
     where
       few : (cls : ℕ) → planeOf c t .widths .writes cls ≤ 8

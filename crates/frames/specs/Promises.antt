@@ -13,7 +13,7 @@ use Rattle.plane.specs.Plane.{Plane, IsPiece, InRow, rasterOf}
 use Rattle.plane.specs.Three.{Three}
 use Rattle.order.specs.Demand3.{Demand3, allOf, Orders}
 use Rattle.apply.specs.Apply.{FilterAnswer}
-use Rattle.frames.specs.Within.{Within, Agree}
+use Rattle.frames.specs.Within.{WithinRow, Agree}
 use Rattle.frames.specs.Calls.{Frame, callAt, lentOf, answer, after, planes, sbRows, Accepted, BoundariesKept}
 use Rattle.frames.specs.Witness.{pass, Differ, Witness}
 
@@ -48,7 +48,7 @@ pub record Demand (f : Frame) (s : Three (List ℕ)) : Type 0 where
 
 -- `part` is the plane's list among the three. In it a call changes samples of its row's lines and, in rows, of at most w above, and sees those and at most r above
 pub record Reaches (f : Frame) (P : Plane) (part : Three (List ℕ) → List ℕ) (w r : ℕ) : Type 0 where
-  pub changes : (d : Pass) (k : ℕ) (s : Three (List ℕ)) (i : ℕ) → ¬ Within P w d k i → getD (part (after f d k s)) i 0 ≡ getD (part s) i 0
+  pub changes : (d : Pass) (k : ℕ) (s : Three (List ℕ)) (i : ℕ) → ¬ WithinRow P w d k i → getD (part (after f d k s)) i 0 ≡ getD (part s) i 0
   pub sees : (d : Pass) (k : ℕ) (s t : Three (List ℕ)) → answer f d k s ≡ answer f d k t
       → Agree P r d k (part s) (part t) → Agree P r d k (part (after f d k s)) (part (after f d k t))
 

@@ -1,4 +1,5 @@
-// Demand 3: theorems about the calls that filter a frame. The function does nothing: its contract puts them where a reader and `rt ci` see them.
+// Demand 3: any order and any division of the edge pieces of a frame gives one result, of the calls that filter it. The function does
+// nothing: its contract puts the theorems where a reader and `rt ci` see them.
 ghost use Rattle.frames.specs.Promises.{Promises};
 
 pub fn promised()

@@ -1,4 +1,4 @@
-// Numbers 11 and 12: what may be filtered, 32 lines of units at once.
+// Numbers 11 and 12: the gap rule and stray mask bits, 32 lines of units at once.
 pub mod lines;
 pub mod track;
 

@@ -22,7 +22,7 @@ use Rattle.record.specs.Record.{fillLevels, fillRow, inRecord}
 use Rattle.checks.specs.Call.{gridOf, Shaped}
 use Rattle.frames.specs.Calls.{callAt, answer, Accepted}
 use Rattle.checks.specs.Tests.{levelsBad, planeBad, number}
-use Rattle.kept.specs.Holds.{Holds}
+use Rattle.kept.specs.Holds.{HoldsEdges}
 use Rattle.kept.specs.Example.{decoded, head, zeros, samples}
 use Rattle.kept.proofs.Keeps.{eleven}
 use Rattle.kept.proofs.Recorded.{after, frame}
@@ -58,9 +58,9 @@ zero-at (suc n) (suc i) = zero-at n i
 black : (n i : ℕ) → ltb 255 (getD (zeros n) i 0) ≡ false
 black n i = ap (λ (v : ℕ). ltb 255 v) (zero-at n i)
 
-low : (n level-stride blockWidth sb above k : ℕ) → samplesHigh (zeros n) level-stride 255 blockWidth sb above k ≡ false
+low : (n level-stride wide sb above k : ℕ) → samplesHigh (zeros n) level-stride 255 wide sb above k ≡ false
 unfolding samplesHigh
-low n level-stride blockWidth sb above k = any-false _ _ (λ y _. any-false blockWidth _ (λ x _. black n _))
+low n level-stride wide sb above k = any-false _ _ (λ y _. any-false wide _ (λ x _. black n _))
 
 long : (n : ℕ) → length (zeros n) ≡ n
 unfolding zeros
@@ -76,7 +76,7 @@ unfolding planeBad
 chroma-good columns = ap₂ (λ (n : ℕ) (b : Bool). not (planeOk n 64 64 64) || b) (long 4096) (low 4096 64 64 8 0 0)
 chroma-good rows = ap₂ (λ (n : ℕ) (b : Bool). not (planeOk n 64 64 64) || b) (long 4096) (low 4096 64 64 8 8 0)
 
-module _ (L : Holds frame decoded 0) (C : Holds frame decoded 1) where
+module _ (L : HoldsEdges frame decoded 0) (C : HoldsEdges frame decoded 1) where
   shaped : Shaped head
   shaped = record { width = omega arith; height = omega arith; size = inl refl }
 

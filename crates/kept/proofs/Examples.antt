@@ -24,13 +24,13 @@ use Rattle.block.specs.Block.{bw4, bh4, cbw4, cbh4, Lent}
 use Rattle.agree.specs.Legal.{Legal, Shows}
 use Rattle.agree.proofs.Theorems as agree
 use Rattle.covering.specs.Front.{Begins}
-use Rattle.covering.specs.Cover.{Axis, Placed}
+use Rattle.covering.specs.Cover.{Axis, PlacedIn}
 use Rattle.drawn.specs.Calls.{atBlock, coded, lumaSeen, lumaState, lumaUnits, chromaSeen, chromaState, chromaUnitsOf}
-use Rattle.drawn.specs.Run.{contextIn, Seen, Tallies, OneTile}
+use Rattle.drawn.specs.Run.{contextIn, SeenBlock, Tallies, OneTile}
 use Rattle.blocks.specs.Laid as blocks
 use Rattle.blocks.specs.Laid.{Calls, tileIn, Laid, LumaLegal, ChromaLegal}
 use Rattle.blocks.proofs.Theorems as laid-calls
-use Rattle.kept.specs.Holds.{Holds, LumaCalls, ChromaCalls}
+use Rattle.kept.specs.Holds.{HoldsEdges, LumaCalls, ChromaCalls}
 use Rattle.kept.specs.Example.{decoded, call, clear, area, both, Example}
 use Rattle.kept.proofs.Drawn.{luma-calls, chroma-calls}
 use Rattle.kept.proofs.Accepts.{accepted}
@@ -38,7 +38,7 @@ use Rattle.kept.proofs.Recorded.{between, after, first, second, frame}
 
 -- ---- the blocks cover the tile
 
-placed : (n last at : ℕ) → n ≡ 2 → at % 2 ≡ 0 → at + 2 ≤ last → (A : Axis) → A .first ≡ 0 → A .last ≡ last → Placed A at n
+placed : (n last at : ℕ) → n ≡ 2 → at % 2 ≡ 0 → at + 2 ≤ last → (A : Axis) → A .first ≡ 0 → A .last ≡ last → PlacedIn A at n
 unfolding log2
 placed n last at e m h A f g =
     record {
@@ -188,7 +188,7 @@ chroma-tallies =
       low = λ n. chroma-low n;
     }
 
-luma-one : (l : List Seen) × OneTile decoded 0 (lumaUnits (call 0 0 .block)) l (lumaState clear) (lumaState after) 2
+luma-one : (l : List SeenBlock) × OneTile decoded 0 (lumaUnits (call 0 0 .block)) l (lumaState clear) (lumaState after) 2
 luma-one =
     let r = laid-calls.promises .luma decoded 4 area both clear after 2 luma-tallies went luma-all (laid 0 0 (omega arith) (omega arith))
     (record { above = omega arith; left = omega arith }) (λ n. omega (arith, luma-low n)) begins in
@@ -198,7 +198,7 @@ luma-one =
     begins columns j _ h = same-at 2 2 j h
     begins rows j _ h = same-at 2 4 j h
 
-chroma-one : (l : List Seen) × OneTile decoded 1 (chromaUnitsOf (call 0 0 .block)) l (chromaState clear) (chromaState after) 1
+chroma-one : (l : List SeenBlock) × OneTile decoded 1 (chromaUnitsOf (call 0 0 .block)) l (chromaState clear) (chromaState after) 1
 chroma-one =
     let r = laid-calls.promises .chroma decoded 1 4 area 1 1 both clear after 1 chroma-tallies went chroma-all (laid 1 1 (omega arith) (omega arith))
     (record { above = omega arith; left = omega arith }) (λ n. omega (arith, chroma-low n)) begins in
@@ -240,10 +240,10 @@ chroma-recorded =
       masks = refl;
     }
 
-luma-holds : Holds frame decoded 0
+luma-holds : HoldsEdges frame decoded 0
 luma-holds = luma-calls frame decoded 4 area both clear after luma-recorded
 
-chroma-holds : Holds frame decoded 1
+chroma-holds : HoldsEdges frame decoded 1
 chroma-holds = chroma-calls frame decoded 1 1 4 area both clear after chroma-recorded
 
 pub example : Example

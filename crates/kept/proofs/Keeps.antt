@@ -25,24 +25,24 @@ use Rattle.frames.specs.Calls.{Frame, callAt, lentOf, Accepted, BoundariesKept}
 use Rattle.frames.proofs.GapKept.{by-size}
 use Rattle.covering.specs.Standard.{Covered}
 use Rattle.covering.proofs.Theorems as covering
-use Rattle.drawn.specs.Run.{State, Seen, Tallies, OneTile}
+use Rattle.drawn.specs.Run.{State, SeenBlock, Tallies, OneTile}
 use Rattle.drawn.proofs.Theorems as drawn
-use Rattle.kept.specs.Holds.{unitsIn, Holds, AllHold}
+use Rattle.kept.specs.Holds.{frameGrid, HoldsEdges, AllHold}
 
 side-four : (r ss : ℕ) → ss ≤ 1 → r * (32 / 2 ^ ss) % 4 ≡ 0
 side-four r ss h = each-at 2 (λ s. r * (32 / 2 ^ s) % 4 ≡ 0) (omega arith, (omega arith, tt)) ss (omega arith)
 
-pub recorded : (f : Frame) (D : standard.Frame) (n : ℕ) (l : List Seen) (s t : State) (start : ℕ) → Tallies D n (unitsIn f n)
-    → OneTile D n (unitsIn f n) l s t start → Covered D n → f .masks ≡ t .masks → Holds f D n
+pub recorded : (f : Frame) (D : standard.Frame) (n : ℕ) (l : List SeenBlock) (s t : State) (start : ℕ) → Tallies D n (frameGrid f n)
+    → OneTile D n (frameGrid f n) l s t start → Covered D n → f .masks ≡ t .masks → HoldsEdges f D n
 recorded f D n l s t start T O K e =
     record {
       tallies = T;
       covered = K;
-      edges = λ d p. ap (λ (m : List ℕ). edge (unitsIn f n) m d p) e ∙ drawn.promises .edges D n (unitsIn f n) l s t start T O d p;
+      edges = λ d p. ap (λ (m : List ℕ). edge (frameGrid f n) m d p) e ∙ drawn.promises .edges D n (frameGrid f n) l s t start T O d p;
     }
 
 module _ (f : Frame) (D : standard.Frame) (shaped : Shaped (f .head)) where
-  module _ (n : ℕ) (H : Holds f D n) where
+  module _ (n : ℕ) (H : HoldsEdges f D n) where
     abbrev P : Plane
     P = planeAt (f .head) (f .limits) (lentOf f (record { luma = []; u = []; v = [] })) n
 
@@ -59,16 +59,16 @@ module _ (f : Frame) (D : standard.Frame) (shaped : Shaped (f .head)) where
         (covering.promises .gap D n (omega (arith, H .tallies .right-ss, H .tallies .proper .ss-hor-le)) (omega (arith, H .tallies .down-ss, H .tallies .proper .ss-ver-le))
         (H .covered) d v P sb-four (end-four d))
 
-    keeps : (d : Pass) (k v : ℕ) → Keeps (unitsIn f n) (f .masks) d (sb4 (f .head)) k v
+    keeps : (d : Pass) (k v : ℕ) → Keeps (frameGrid f n) (f .masks) d (sb4 (f .head)) k v
     keeps columns k v = plane-gap columns v
     keeps rows k v = drawn.promises .row (λ u. P .edge rows (u, v)) (P .sb) (P .height) (plane-gap rows v) k
 
     boundaries : BoundariesKeep P
     boundaries = record { keeps = λ v k a c e m. plane-gap rows v .right a (k * P .sb) m c e }
 
-    pub eleven : (d : Pass) (k : ℕ) → gap (unitsIn f n) (f .masks) d (sb4 (f .head)) k ≡ false
+    pub eleven : (d : Pass) (k : ℕ) → gap (frameGrid f n) (f .masks) d (sb4 (f .head)) k ≡ false
     eleven d k =
-        unmet (gap (unitsIn f n) (f .masks) d (sb4 (f .head)) k) (numbers.promises .eleven (unitsIn f n) (f .masks) d (sb4 (f .head)) k (H .tallies .proper .ss-hor-le))
+        unmet (gap (frameGrid f n) (f .masks) d (sb4 (f .head)) k) (numbers.promises .eleven (frameGrid f n) (f .masks) d (sb4 (f .head)) k (H .tallies .proper .ss-hor-le))
         (λ g. g .breaks (keeps d k (g .line)))
 
   -- a plane that is not filtered has no edge

@@ -22,10 +22,10 @@ use Rattle.block.specs.Block.{Lent, lent}
 use Rattle.record.specs.Record.{intraOf}
 use Rattle.checks.specs.declared.Call as checks
 use Rattle.frames.specs.Calls.{Frame, Accepted}
-use Rattle.drawn.specs.Calls.{Call, lumaState, lumaUnits, chromaState, chromaUnitsOf}
-use Rattle.drawn.specs.Run.{Seen, OneTile}
-use Rattle.blocks.specs.Laid.{Area}
-use Rattle.kept.specs.Holds.{unitsIn, AllHold, LumaCalls, ChromaCalls}
+use Rattle.drawn.specs.Calls.{RecordCall, lumaState, lumaUnits, chromaState, chromaUnitsOf}
+use Rattle.drawn.specs.Run.{SeenBlock, OneTile}
+use Rattle.blocks.specs.Laid.{TileArea}
+use Rattle.kept.specs.Holds.{frameGrid, AllHold, LumaCalls, ChromaCalls}
 
 abbrev pub decoded : standard.Frame
 decoded =
@@ -40,7 +40,7 @@ decoded =
       TxSizes = λ plane row col. cond (eqb plane 0) (cond (ltb col 2) 0 1) 0;
     }
 
-abbrev pub call : ℕ → ℕ → Call
+abbrev pub call : ℕ → ℕ → RecordCall
 call x t = record { block = intraOf 16 8 420 x 0 3 t 1 0; tx-masks = []; values = replicate 64 20 }
 
 abbrev pub clear : Lent
@@ -64,10 +64,10 @@ head =
     }
 
 -- the frame is one tile
-abbrev pub area : Area
+abbrev pub area : TileArea
 area = record { w4 = 4; h4 = 2; MiCols = 4; MiRows = 2; x0 = 0; x1 = 4; y0 = 0; y1 = 2 }
 
-abbrev pub both : List Call
+abbrev pub both : List RecordCall
 both = call 0 0 ∷ call 2 1 ∷ []
 
 unfoldable pub zeros : ℕ → List ℕ
@@ -78,8 +78,8 @@ samples = record { luma = zeros 16384; u = zeros 4096; v = zeros 4096 }
 
 pub record Example : Type 0 where
   pub after : Lent
-  pub luma-tile : (l : List Seen) × OneTile decoded 0 (lumaUnits (call 0 0 .block)) l (lumaState clear) (lumaState after) 2
-  pub chroma-tile : (l : List Seen) × OneTile decoded 1 (chromaUnitsOf (call 0 0 .block)) l (chromaState clear) (chromaState after) 1
+  pub luma-tile : (l : List SeenBlock) × OneTile decoded 0 (lumaUnits (call 0 0 .block)) l (lumaState clear) (lumaState after) 2
+  pub chroma-tile : (l : List SeenBlock) × OneTile decoded 1 (chromaUnitsOf (call 0 0 .block)) l (chromaState clear) (chromaState after) 1
   pub frame : Frame
   pub head-is : frame .head ≡ head
   pub luma : LumaCalls frame decoded 4 area both clear after
@@ -87,8 +87,8 @@ pub record Example : Type 0 where
   pub holds : AllHold frame decoded
   pub accepted : Accepted frame samples
   -- an inner edge of the first block in each pass, the edge between the blocks, of the lesser class, and nothing inside the second; in chroma the edge between
-  pub inner-column : edge (unitsIn frame 0) (frame .masks) columns (1, 0) ≡ some 0
-  pub inner-row : edge (unitsIn frame 0) (frame .masks) rows (1, 0) ≡ some 0
-  pub block-edge : edge (unitsIn frame 0) (frame .masks) columns (2, 0) ≡ some 0
-  pub no-edge : edge (unitsIn frame 0) (frame .masks) columns (3, 0) ≡ none
-  pub chroma-edge : edge (unitsIn frame 1) (frame .masks) columns (1, 0) ≡ some 0
+  pub inner-column : edge (frameGrid frame 0) (frame .masks) columns (1, 0) ≡ some 0
+  pub inner-row : edge (frameGrid frame 0) (frame .masks) rows (1, 0) ≡ some 0
+  pub block-edge : edge (frameGrid frame 0) (frame .masks) columns (2, 0) ≡ some 0
+  pub no-edge : edge (frameGrid frame 0) (frame .masks) columns (3, 0) ≡ none
+  pub chroma-edge : edge (frameGrid frame 1) (frame .masks) columns (1, 0) ≡ some 0

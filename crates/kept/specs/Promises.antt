@@ -13,26 +13,27 @@ use Rattle.frames.specs.Promises.{Demand}
 use Rattle.covering.specs.Front.{Tile}
 use Rattle.covering.specs.Standard.{Covered}
 use Rattle.block.specs.Block.{Lent}
-use Rattle.drawn.specs.Calls.{Call}
-use Rattle.blocks.specs.Laid.{Area}
-use Rattle.drawn.specs.Run.{State, Seen, Tallies, OneTile}
+use Rattle.drawn.specs.Calls.{RecordCall}
+use Rattle.blocks.specs.Laid.{TileArea}
+use Rattle.drawn.specs.Run.{State, SeenBlock, Tallies, OneTile}
 use Rattle.tiles.specs.Tiles.{Fix, InTiles}
-use Rattle.kept.specs.Holds.{unitsIn, Holds, AllHold, LumaCalls, ChromaCalls}
+use Rattle.kept.specs.Holds.{frameGrid, HoldsEdges, AllHold, LumaCalls, ChromaCalls}
 use Rattle.kept.specs.Example.{Example}
 
 pub record Promises : Type 0 where
   -- a plane of one tile holds them once its blocks are recorded in order
-  pub recorded : (f : Frame) (D : standard.Frame) (n : ℕ) (l : List Seen) (s t : State) (start : ℕ) → Tallies D n (unitsIn f n)
-      → OneTile D n (unitsIn f n) l s t start → Covered D n → f .masks ≡ t .masks → Holds f D n
+  pub recorded : (f : Frame) (D : standard.Frame) (n : ℕ) (l : List SeenBlock) (s t : State) (start : ℕ) → Tallies D n (frameGrid f n)
+      → OneTile D n (frameGrid f n) l s t start → Covered D n → f .masks ≡ t .masks → HoldsEdges f D n
   -- as accepted calls for legal blocks that cover the frame record them, in luma and in chroma
-  pub luma-calls : (f : Frame) (D : standard.Frame) (level-stride : ℕ) (A : Area) (l : List Call) (m n : Lent) → LumaCalls f D level-stride A l m n → Holds f D 0
-  pub chroma-calls : (f : Frame) (D : standard.Frame) (sx sy level-stride : ℕ) (A : Area) (l : List Call) (m n : Lent) → ChromaCalls f D sx sy level-stride A l m n → Holds f D 1
+  pub luma-calls : (f : Frame) (D : standard.Frame) (level-stride : ℕ) (A : TileArea) (l : List RecordCall) (m n : Lent) → LumaCalls f D level-stride A l m n → HoldsEdges f D 0
+  pub chroma-calls : (f : Frame) (D : standard.Frame) (sx sy level-stride : ℕ) (A : TileArea) (l : List RecordCall) (m n : Lent)
+      → ChromaCalls f D sx sy level-stride A l m n → HoldsEdges f D 1
   -- and so does a plane of several tiles, once their starts are corrected too
   pub in-tiles : (f : Frame) (D : standard.Frame) (n : ℕ) (start : ℕ) (ts : List Tile) (l : List Fix) (clear drawn : List ℕ)
-      → InTiles D n (unitsIn f n) start ts l clear drawn (f .masks) → Covered D n → Holds f D n
+      → InTiles D n (frameGrid f n) start ts l clear drawn (f .masks) → Covered D n → HoldsEdges f D n
   -- number 11 is not given for such a plane
-  pub eleven : (f : Frame) (D : standard.Frame) (n : ℕ) → Shaped (f .head) → Holds f D n → (d : Pass) (k : ℕ)
-      → gap (unitsIn f n) (f .masks) d (sb4 (f .head)) k ≡ false
+  pub eleven : (f : Frame) (D : standard.Frame) (n : ℕ) → Shaped (f .head) → HoldsEdges f D n → (d : Pass) (k : ℕ)
+      → gap (frameGrid f n) (f .masks) d (sb4 (f .head)) k ≡ false
   -- edges on superblock boundaries keep the gap rule with what is above them, which no call looks at
   pub boundaries : (f : Frame) (D : standard.Frame) → Shaped (f .head) → AllHold f D → BoundariesKept f
   -- so that demand 3 asks no more than accepted calls

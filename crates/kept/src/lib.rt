@@ -1,4 +1,5 @@
-// Demand 3 of a frame whose masks hold the standard's edges: its boundaries keep the gap rule. The function does nothing: its contract puts the theorems where a reader sees them.
+// Masks recorded from legal blocks hold the standard's edges and keep the gap rule, so demand 3 holds. The function does nothing: its
+// contract puts the theorems where a reader sees them.
 ghost use Rattle.kept.specs.Promises.{Promises};
 
 pub fn promised()

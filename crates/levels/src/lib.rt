@@ -1,4 +1,4 @@
-// The level values of a frame: `rav1d_calc_lf_values` of the Rust.
+// Public: the level values of a frame header. It is `rav1d_calc_lf_values` of the Rust.
 ghost use mathlib.Core.Path.{_≡_};
 ghost use mathlib.Core.Bool.{cond, _&&_, _||_};
 ghost use Prim.Native.Nat.{_+_, _*_, _/_, _%_, _<_, _≤_};

@@ -1,4 +1,4 @@
-// The limit table of a sharpness: `rav1d_calc_eih` of the Rust.
+// Public: the limit table of a sharpness, by value, in the caller's struct, in arrays. It is `rav1d_calc_eih` of the Rust.
 ghost use mathlib.Core.Path.{_≡_};
 ghost use Prim.Native.Nat.{_+_, _*_, _<_, _≤_, min, max};
 ghost use Rattle.standard.specs.Strength.{limit};

@@ -1,4 +1,4 @@
-// The edge listing: a script of bytes into an output of bytes.
+// Public: a script of bytes into an output of bytes, the edge listing.
 use list_fields::end_of;
 use list_put::put_list;
 use list_steps::State;

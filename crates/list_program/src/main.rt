@@ -1,4 +1,4 @@
-// The edge listing of standard input. A failure is told on standard error, and `./edge-list` gives it an exit status.
+// A program: the edge listing of standard input. A failure is told on standard error, and `./edge-list` gives it an exit status.
 use libc::STDERR_FILENO;
 use libc::STDOUT_FILENO;
 use list_reading::listed;

@@ -1,4 +1,4 @@
-// The listing of standard input, which is read in parts.
+// Standard input read in parts, and its listing.
 use libc::STDIN_FILENO;
 use list_call::CHROMA_START;
 use list_call::LUMA_START;

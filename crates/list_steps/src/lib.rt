@@ -1,4 +1,4 @@
-// A step of the edge listing: one line of a script.
+// One line of a script: the frame, its levels, a block recorded.
 mod blocks;
 mod frame;
 mod level;

@@ -2,7 +2,7 @@
 --     Order, OrderIn                  a list that has each edge piece of a pass once, over the frame or in one superblock row
 --     Divided                         what holds of a division into parts, each the work of one of several workers
 --     Demand3                         of one plane
---     Near, Sees                      how far a sample sees
+--     NearSample, Sees                how far a sample sees
 --     allOf, Orders, Frame3           of the three planes of a frame together
 use Prim.Native.Nat.{ℕ, _+_, _*_, _/_, _%_, _≤_, _<_}
 use mathlib.Core.Path.{_≡_}
@@ -50,7 +50,7 @@ pub record Demand3 (P : Plane) : Type 0 where
   pub standard-any : (d : Pass) (l : List Piece) → Order P d l → (s : List ℕ) → rasterOf P d s ≡ run (act P d) l s
 
 -- the place j is stored, and at most n samples from the place i each way, in a plane of stride S and width w
-pub record Near (S w n i j : ℕ) : Type 0 where
+pub record NearSample (S w n i j : ℕ) : Type 0 where
   pub stored : j % S < w
   pub lower : i / S ≤ j / S + n
   pub upper : j / S ≤ i / S + n
@@ -60,7 +60,7 @@ pub record Near (S w n i j : ℕ) : Type 0 where
 -- the whole run sees no farther than n samples
 pub record Sees (P : Plane) (n : ℕ) : Type 0 where
   pub sees : (s t : List ℕ) → length s ≡ length t → (i : ℕ) → i % P .stride < 4 * (P .records * P .recordUnits)
-      → ((j : ℕ) → Near (P .stride) (4 * (P .records * P .recordUnits)) n i j → getD s j 0 ≡ getD t j 0)
+      → ((j : ℕ) → NearSample (P .stride) (4 * (P .records * P .recordUnits)) n i j → getD s j 0 ≡ getD t j 0)
       → getD (upTo (λ k u. rowsOf P k (colsOf P k u)) (P .sbs) s) i 0 ≡ getD (upTo (λ k u. rowsOf P k (colsOf P k u)) (P .sbs) t) i 0
 
 -- ---- the three planes of a frame

@@ -12,7 +12,7 @@ use Rattle.checks.specs.Tests.{levelBad, depthBad, shapeBad, lengthBad, inside,
 use Rattle.checks.specs.Faults.{LevelByteFault, SampleFault, stride-short, too-short, too-high, PlaneFault, GapFault, MaskFault}
 use Rattle.checks.proofs.TestsPassed.{shaped, sizes, proper}
 use Rattle.checks.proofs.FaultTests.{reflects-bytes, reflects-planes-bad, reflects-gap, reflects-mask}
-use Rattle.own_row.specs.Own.{SameTables, Same}
+use Rattle.own_row.specs.Own.{SameTables, SameLent}
 use Rattle.own_row.proofs.Bits.{keeps-same}
 
 -- ---- the other way round
@@ -26,7 +26,7 @@ back-tables s =
       bits = λ n f. record { same = λ u k j b x y z w. sym (s .bits n f .same u k j b x y z w) };
     }
 
-back : {c : Call} {m m′ : Lent} → Same c m m′ → Same c m′ m
+back : {c : Call} {m m′ : Lent} → SameLent c m m′ → SameLent c m′ m
 back s =
     record {
       tables = back-tables (s .tables);
@@ -35,7 +35,7 @@ back s =
 
 -- ---- each fault
 
-module _ (c : Call) (m m′ : Lent) (s : Same c m m′) where
+module _ (c : Call) (m m′ : Lent) (s : SameLent c m m′) where
   level-fault : LevelByteFault c m → LevelByteFault c m′
   level-fault a =
       let h = a .height in
@@ -91,7 +91,7 @@ module _ (c : Call) (m m′ : Lent) (s : Same c m m′) where
         };
       }
 
-gap-fault : (c : Call) (m m′ : Lent) → Same c m m′ → Shaped c → GapFault c m → GapFault c m′
+gap-fault : (c : Call) (m m′ : Lent) → SameLent c m m′ → Shaped c → GapFault c m → GapFault c m′
 gap-fault c m m′ s h a =
     let b = a .broken in
     let t = back-tables (s .tables) .bits (a .plane) (a .filtered) in
@@ -117,7 +117,7 @@ guarded : (b : Bool) (n x y : ℕ) → (b ≡ false → x ≡ y) → cond b n x 
 guarded true n x y h = refl
 guarded false n x y h = h refl
 
-module _ (c : Call) (m m′ : Lent) (s : Same c m m′) where
+module _ (c : Call) (m m′ : Lent) (s : SameLent c m m′) where
   some-sb : Shaped c → 0 < sb4 c
   some-sb h = ⊎-elim (λ e. omega arith) (λ e. omega arith) (sizes c h)
 

@@ -17,8 +17,9 @@ use Rattle.gap.specs.Numbers.{sbUnits}
 use Rattle.view.specs.Level.{levelUsed}
 use Rattle.walk.specs.Walk.{lenOf}
 use Rattle.filter.specs.declared.Component.{Component}
+use Rattle.gap.proofs.NumbersMean.{edge-in}
 use Rattle.filter.specs.Filter.{Tables, gridOf, areaOf, before, levelOf, changeAt, planeOf, firstAcross, firstAlong, across, along, lineOf, sweepOf}
-use Rattle.frames.proofs.GapKept.{Size, in-frame}
+use Rattle.frames.proofs.GapKept.{Size}
 use Rattle.own_row.specs.Own.{SameLevels, SameBits}
 use Rattle.own_row.proofs.Bits.{edge-same}
 
@@ -52,7 +53,7 @@ module _ (c : Component) (proper : Proper (gridOf c)) (size : Size (c .sb4 .0)) 
     level-same : (p : Piece) (cls : ℕ) → InRow (planeOf c t) d k p → class (planeOf c t) d p ≡ some cls → levelOf c t d p ≡ levelOf c t′ d p
     level-same p cls r z =
         let o = inner-some (p .0) (planeOf c t .edge d p) cls z in
-        let i = in-frame c t d p cls (o .1) in
+        let i = edge-in (gridOf c) (t .masks) d p cls (o .1) in
         let u = unit-levels c d k ls ls′ l p (o .0) (i .0) (i .1) (r .from) (rw add-one (r .to)) in
         λ q. levelUsed (u .0 q) (u .1 q)
 

@@ -30,9 +30,9 @@ use Rattle.apply.specs.Apply.{Limits, componentOf, tablesOf, planeAt, threeOf, 
 use Rattle.apply.specs.Promises.{passed}
 use Rattle.apply.proofs.Laws as apply
 use Rattle.apply.proofs.ReadyPlanes.{grid-is, ready}
-use Rattle.frames.specs.Within.{Within, Agree}
+use Rattle.frames.specs.Within.{WithinRow, Agree}
 use Rattle.frames.proofs.Regions.{fair, sweep-outside, sweep-inside}
-use Rattle.own_row.specs.Own.{SameLevels, SameBits, Seen, SameSamples, SameTables, Same, left}
+use Rattle.own_row.specs.Own.{SameLevels, SameBits, OwnSample, SameSamples, SameTables, SameLent, withSamples}
 use Rattle.own_row.proofs.Numbers.{number-same}
 use Rattle.own_row.proofs.Passes.{Levels, sweep-same}
 
@@ -53,7 +53,7 @@ own-levels c (chroma-v a b) ls ls′ s = s
 -- ---- the samples that a call sees, by their index
 
 module _ (c : Call) (l : Limits) (m : Lent) (n : ℕ) where
-  within-seen : (i : ℕ) → Within (planeAt c l m n) 8 (callPass c) (c .row) i → Seen c n i
+  within-seen : (i : ℕ) → WithinRow (planeAt c l m n) 8 (callPass c) (c .row) i → OwnSample c n i
   within-seen i w =
       record {
         x = i % strideOf c n;
@@ -64,7 +64,7 @@ module _ (c : Call) (l : Limits) (m : Lent) (n : ℕ) where
         to = rw add-one (w .to);
       }
 
-  seen-within : stored (c .width .0) (ss-hor c n) ≤ strideOf c n → (i : ℕ) → Seen c n i → Within (planeAt c l m n) 8 (callPass c) (c .row) i
+  seen-within : stored (c .width .0) (ss-hor c n) ≤ strideOf c n → (i : ℕ) → OwnSample c n i → WithinRow (planeAt c l m n) 8 (callPass c) (c .row) i
   seen-within h i s =
       let x : s .x < strideOf c n = omega (arith, s .right) in
       let a : i % strideOf c n ≡ s .x = ap (λ (j : ℕ). j % strideOf c n) (s .at) ∙ digits-mod (s .y) x in
@@ -98,7 +98,7 @@ module _ (c : Call) (l : Limits) (m : Lent) (e : number c m ≡ 0) {n : ℕ} (f 
           sweep-inside (componentOf c n) (tablesOf c l m) (length (samples m n)) (r .stored) (c .row) (callPass c) (r .fit) 8 (fair (eqb n 0) .reach .any) x y
           (record { long = s .long; same = λ i w. s .same i (within-seen c l m n i w) })
 
-  pass-keeps : (x : List ℕ) (i : ℕ) → ¬ Seen c n i → getD (passed c (planeAt c l m n) x) i 0 ≡ getD x i 0
+  pass-keeps : (x : List ℕ) (i : ℕ) → ¬ OwnSample c n i → getD (passed c (planeAt c l m n) x) i 0 ≡ getD x i 0
   pass-keeps x i h =
       let r = ready c l m e f in
       ap (λ z. getD z i 0) (passed-is c (planeAt c l m n) x)
@@ -138,21 +138,21 @@ module _ (c : Call) (l : Limits) (m : Lent) (r : ℕ) (s : Three (List ℕ)) (a 
   accepted : r ≡ 0 → number c m ≡ 0
   accepted e = sym (a .code) ∙ e
 
-  left-done : {n : ℕ} → Filtered c n → r ≡ 0 → samples (left m s) n ≡ passed c (planeAt c l m n) (samples m n)
+  left-done : {n : ℕ} → Filtered c n → r ≡ 0 → samples (withSamples m s) n ≡ passed c (planeAt c l m n) (samples m n)
   left-done luma e = apply.promises .each c l m r s a .luma e
   left-done (chroma-u x y) e = apply.promises .each c l m r s a .u e (chroma-u x y)
   left-done (chroma-v x y) e = apply.promises .each c l m r s a .v e (chroma-v x y)
 
-  left-refused : (n : ℕ) → ¬ (r ≡ 0) → samples (left m s) n ≡ samples m n
-  left-refused n z = ap (λ t. samples (left m t) n) (apply.promises .each c l m r s a .refused z)
+  left-refused : (n : ℕ) → ¬ (r ≡ 0) → samples (withSamples m s) n ≡ samples m n
+  left-refused n z = ap (λ t. samples (withSamples m t) n) (apply.promises .each c l m r s a .refused z)
 
   -- a plane that is filtered, and not
-  left-keeps : {n : ℕ} → Filtered c n → (i : ℕ) → ¬ Seen c n i → getD (samples (left m s) n) i 0 ≡ getD (samples m n) i 0
+  left-keeps : {n : ℕ} → Filtered c n → (i : ℕ) → ¬ OwnSample c n i → getD (samples (withSamples m s) n) i 0 ≡ getD (samples m n) i 0
   left-keeps {n} f i h =
       by-cases (ℕ-discrete r 0) (λ e. ap (λ z. getD z i 0) (left-done f e) ∙ pass-keeps c l m (accepted e) f (samples m n) i h)
       (λ z. ap (λ z. getD z i 0) (left-refused n z))
 
-  pub others : (n i : ℕ) → ¬ Seen c n i → getD (samples (left m s) n) i 0 ≡ getD (samples m n) i 0
+  pub others : (n i : ℕ) → ¬ OwnSample c n i → getD (samples (withSamples m s) n) i 0 ≡ getD (samples m n) i 0
   others zero i h = left-keeps luma i h
   others (suc zero) i h = by-cases (dec-u c) (λ f. left-keeps f i h) (λ n. ap (λ z. getD z i 0) (apply.promises .each c l m r s a .u-stays n))
   others (suc (suc n)) i h =
@@ -162,23 +162,23 @@ module _ (c : Call) (l : Limits) (m : Lent) (r : ℕ) (s : Three (List ℕ)) (a 
 -- ---- two answers
 
 module _ (c : Call) (l : Limits) (m m′ : Lent) (r r′ : ℕ) (s s′ : Three (List ℕ)) where
-  codes : Same c m m′ → FilterAnswer c l m r s → FilterAnswer c l m′ r′ s′ → r ≡ r′
+  codes : SameLent c m m′ → FilterAnswer c l m r s → FilterAnswer c l m′ r′ s′ → r ≡ r′
   codes x a b = a .code ∙ number-same c m m′ x ∙ sym (b .code)
 
-  pub row : Same c m m′ → FilterAnswer c l m r s → FilterAnswer c l m′ r′ s′ → (r ≡ r′) × Same c (left m s) (left m′ s′)
+  pub row : SameLent c m m′ → FilterAnswer c l m r s → FilterAnswer c l m′ r′ s′ → (r ≡ r′) × SameLent c (withSamples m s) (withSamples m′ s′)
   row x a b = (e, record { tables = x .tables; samples = λ n f. by-cases (ℕ-discrete r 0) (done n f) (refused n f) })
     where
       e : r ≡ r′
       e = codes x a b
 
-      done : (n : ℕ) → Filtered c n → r ≡ 0 → SameSamples c n (samples (left m s) n) (samples (left m′ s′) n)
+      done : (n : ℕ) → Filtered c n → r ≡ 0 → SameSamples c n (samples (withSamples m s) n) (samples (withSamples m′ s′) n)
       done n f z =
           let k = accepted c l m r s a z in
-          let y : samples (left m′ s′) n ≡ passed c (planeAt c l m n) (samples m′ n) =
+          let y : samples (withSamples m′ s′) n ≡ passed c (planeAt c l m n) (samples m′ n) =
           left-done c l m′ r′ s′ b f (sym e ∙ z) ∙ sym (pass-same c l m k f m′ (x .tables) (samples m′ n)) in
           rw (left-done c l m r s a f z, y) (pass-sees c l m k f (samples m n) (samples m′ n) (x .samples n f))
 
-      refused : (n : ℕ) → Filtered c n → ¬ (r ≡ 0) → SameSamples c n (samples (left m s) n) (samples (left m′ s′) n)
+      refused : (n : ℕ) → Filtered c n → ¬ (r ≡ 0) → SameSamples c n (samples (withSamples m s) n) (samples (withSamples m′ s′) n)
       refused n f z = rw (left-refused c l m r s a n z, left-refused c l m′ r′ s′ b n (λ w. z (e ∙ w))) (x .samples n f)
 
   pub tables : threeOf m ≡ threeOf m′ → SameTables c (m .levels) (m′ .levels) (m .masks) (m′ .masks)
@@ -190,13 +190,13 @@ module _ (c : Call) (l : Limits) (m m′ : Lent) (r r′ : ℕ) (s s′ : Three 
       lent (suc zero) = ap (λ q. q .u) p
       lent (suc (suc n)) = ap (λ q. q .v) p
 
-      same : Same c m m′
+      same : SameLent c m m′
       same = record { tables = t; samples = λ n f. record { long = ap length (lent n); same = λ i _. ap (λ z. getD z i 0) (lent n) } }
 
       e : r ≡ r′
       e = codes same a b
 
-      filtered : {n : ℕ} → Filtered c n → r ≡ 0 → samples (left m s) n ≡ samples (left m′ s′) n
+      filtered : {n : ℕ} → Filtered c n → r ≡ 0 → samples (withSamples m s) n ≡ samples (withSamples m′ s′) n
       filtered {n} f z =
           left-done c l m r s a f z
           ∙ pass-same c l m (accepted c l m r s a z) f m′ t (samples m n)

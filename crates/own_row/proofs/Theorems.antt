@@ -12,7 +12,7 @@ use Rattle.plane.specs.Three.{Three}
 use Rattle.apply.specs.Apply.{FilterAnswer}
 use Rattle.frames.specs.Calls.{Frame, callAt, lentOf, answer, after, sbRows, Accepted, BoundariesKept}
 use Rattle.frames.proofs.Theorems as frames
-use Rattle.own_row.specs.Turns.{Moment, at, OwnRows, turn, Taken}
+use Rattle.own_row.specs.Turns.{Moment, frameAt, OwnRows, turn, TurnsTaken}
 use Rattle.own_row.specs.Promises.{Turned, Promises}
 use Rattle.own_row.proofs.Numbers.{number-same}
 use Rattle.own_row.proofs.Rows.{row, others, tables}
@@ -29,12 +29,12 @@ stay = frames.promises .answers-stay
 
 module _ (f : Frame) (g : Pass → ℕ → Moment) (o : OwnRows f g) where
   call : (d : Pass) (k : ℕ) → k < sbRows f → (s : Three (List ℕ))
-      → (answer (at f (g d k)) d k s ≡ answer f d k s) × (after (at f (g d k)) d k s ≡ after f d k s)
+      → (answer (frameAt f (g d k)) d k s ≡ answer f d k s) × (after (frameAt f (g d k)) d k s ≡ after f d k s)
   call d k h s =
-      tables (callAt f d k) (f .limits) (lentOf (at f (g d k)) s) (lentOf f s) _ _ _ _ refl (o d k h) (is-answer (at f (g d k)) d k s) (is-answer f d k s)
+      tables (callAt f d k) (f .limits) (lentOf (frameAt f (g d k)) s) (lentOf f s) _ _ _ _ refl (o d k h) (is-answer (frameAt f (g d k)) d k s) (is-answer f d k s)
 
   calls : (l : List (Pass × ℕ)) → All (λ c. c .1 < sbRows f) l → (s : Three (List ℕ))
-      → run (λ c. after (at f (g (c .0) (c .1))) (c .0) (c .1)) l s ≡ run (λ c. after f (c .0) (c .1)) l s
+      → run (λ c. after (frameAt f (g (c .0) (c .1))) (c .0) (c .1)) l s ≡ run (λ c. after f (c .0) (c .1)) l s
   calls [] h s = refl
   calls (c ∷ l) h s = rw (call (c .0) (c .1) (h .0) s .1) (calls l (h .1) (after f (c .0) (c .1) s))
 
@@ -51,23 +51,23 @@ module _ (f : Frame) (g : Pass → ℕ → Moment) (o : OwnRows f g) where
         upTo-holds (λ x. answer f d k x ≡ answer f d k s) (turn f g) n
         (λ i l x e. rw (one-turn i (omega arith) x) (stay f d rows k i (after f columns i x) ∙ stay f d columns k i x ∙ e)) s refl
 
-    columns-answer : (k : ℕ) → k < sbRows f → answer (at f (g columns k)) columns k (upTo (turn f g) k s) ≡ answer f columns k s
+    columns-answer : (k : ℕ) → k < sbRows f → answer (frameAt f (g columns k)) columns k (upTo (turn f g) k s) ≡ answer f columns k s
     columns-answer k h = call columns k h (upTo (turn f g) k s) .0 ∙ answer-stays columns k k (omega arith)
 
     rows-answer : (k : ℕ) → k < sbRows f
-        → answer (at f (g rows k)) rows k (after (at f (g columns k)) columns k (upTo (turn f g) k s)) ≡ answer f rows k s
+        → answer (frameAt f (g rows k)) rows k (after (frameAt f (g columns k)) columns k (upTo (turn f g) k s)) ≡ answer f rows k s
     rows-answer k h =
         let x = upTo (turn f g) k s in
-        call rows k h (after (at f (g columns k)) columns k x) .0
+        call rows k h (after (frameAt f (g columns k)) columns k x) .0
         ∙ ap (answer f rows k) (call columns k h x .1)
         ∙ stay f rows columns k k x
         ∙ answer-stays rows k k (omega arith)
 
-    answered : Taken f g s → (d : Pass) (k : ℕ) → k < sbRows f → answer f d k s ≡ 0
+    answered : TurnsTaken f g s → (d : Pass) (k : ℕ) → k < sbRows f → answer f d k s ≡ 0
     answered t columns k h = sym (columns-answer k h) ∙ t .columns-done k h
     answered t rows k h = sym (rows-answer k h) ∙ t .rows-done k h
 
-    accepted : Exactly (Taken f g s) (Accepted f s)
+    accepted : Exactly (TurnsTaken f g s) (Accepted f s)
     accepted =
         record {
           only = λ t. record { some = t .some; all = answered t };
@@ -79,7 +79,7 @@ module _ (f : Frame) (g : Pass → ℕ → Moment) (o : OwnRows f g) where
               };
         }
 
-    demand : Taken f g s → BoundariesKept f → Turned f g s
+    demand : TurnsTaken f g s → BoundariesKept f → Turned f g s
     demand t b =
         let y = frames.promises .demand f s (accepted .only t) b in
         record {

@@ -2,11 +2,11 @@
 --   SameBits G d sb4 k ..     the mask bits of row k: every class, in columns the row's halves of all stored units, in rows all halves of the row's units
 --   OwnLine G sb4 k a y       the unit line y is of row k, or of the a above it
 --   SameLevels G d sb4 k ..   the level bytes of a area at the units of row k and, for rows, of the unit line above it
---   Seen c n i                the sample at index i of plane n stands in the row's stored lines or, for rows, in the 8 above
+--   OwnSample c n i           the sample at index i of plane n stands in the row's stored lines or, for rows, in the 8 above
 --   SameSamples c n ..        these samples
 --   SameTables c ..           the level bytes of this pass and the bits, of each plane that it filters
---   Same c m m′               and the samples
---   left m s                  the lent memory with other samples
+--   SameLent c m m′           and the samples
+--   withSamples m s           the lent memory with other samples
 use mathlib.Core.List.{List}
 use mathlib.Core.Path.{_≡_}
 use Prim.Native.Nat.{ℕ, _+_, _*_, _≤_, _<_}
@@ -34,7 +34,7 @@ pub record SameLevels (G : Grid) (d : Pass) (sb4 k level-stride area : ℕ) (ls 
   pub same : (x y : ℕ) → x < unitsOf G columns → y < unitsOf G rows → OwnLine G sb4 k (passNo d) y
       → getD ls (levelAt level-stride x y area) 0 ≡ getD ls′ (levelAt level-stride x y area) 0
 
-pub record Seen (c : Call) (n i : ℕ) : Type 0 where
+pub record OwnSample (c : Call) (n i : ℕ) : Type 0 where
   pub x : ℕ
   pub y : ℕ
   pub at : i ≡ y * strideOf c n + x
@@ -44,7 +44,7 @@ pub record Seen (c : Call) (n i : ℕ) : Type 0 where
 
 pub record SameSamples (c : Call) (n : ℕ) (s s′ : List ℕ) : Type 0 where
   pub long : length s ≡ length s′
-  pub same : (i : ℕ) → Seen c n i → getD s i 0 ≡ getD s′ i 0
+  pub same : (i : ℕ) → OwnSample c n i → getD s i 0 ≡ getD s′ i 0
 
 -- of level bytes ls and masks ms
 pub record SameTables (c : Call) (ls ls′ ms ms′ : List ℕ) : Type 0 where
@@ -53,9 +53,9 @@ pub record SameTables (c : Call) (ls ls′ ms ms′ : List ℕ) : Type 0 where
   pub levels : (n : ℕ) → Filtered c n → SameLevels (gridOf c n) (callPass c) (sb4 c) (c .row) (c .«level_stride») (areaOf c n) ls ls′
   pub bits : (n : ℕ) → Filtered c n → SameBits (gridOf c n) (callPass c) (sb4 c) (c .row) ms ms′
 
-pub record Same (c : Call) (m m′ : Lent) : Type 0 where
+pub record SameLent (c : Call) (m m′ : Lent) : Type 0 where
   pub tables : SameTables c (m .levels) (m′ .levels) (m .masks) (m′ .masks)
   pub samples : (n : ℕ) → Filtered c n → SameSamples c n (samples m n) (samples m′ n)
 
-abbrev pub left : Lent → Three (List ℕ) → Lent
-left m s = record { luma = s .luma; u = s .u; v = s .v; levels = m .levels; masks = m .masks }
+abbrev pub withSamples : Lent → Three (List ℕ) → Lent
+withSamples m s = record { luma = s .luma; u = s .u; v = s .v; levels = m .levels; masks = m .masks }

@@ -22,9 +22,9 @@ use Rattle.apply.specs.Apply.{Limits, componentOf, threeOf, FilterAnswer}
 use Rattle.order.specs.Demand3.{allOf, Orders}
 use Rattle.frames.specs.Calls.{Frame, callAt, answer, after, planes, sbRows, Accepted, BoundariesKept}
 use Rattle.frames.specs.Promises.{Demand}
-use Rattle.own_row.specs.Own.{SameTables, Seen, Same, left}
+use Rattle.own_row.specs.Own.{SameTables, OwnSample, SameLent, withSamples}
 use Rattle.own_row.specs.Elsewhere.{Elsewhere}
-use Rattle.own_row.specs.Turns.{Moment, at, OwnRows, turn, Taken}
+use Rattle.own_row.specs.Turns.{Moment, frameAt, OwnRows, turn, TurnsTaken}
 
 pub record Turned (f : Frame) (g : Pass → ℕ → Moment) (s : Three (List ℕ)) : Type 0 where
   -- each call is accepted with the frame's own level bytes and masks, so demand 3 holds of it
@@ -43,28 +43,28 @@ pub record Turned (f : Frame) (g : Pass → ℕ → Moment) (s : Three (List ℕ
 
 pub record Promises : Type 0 where
   -- two lendings that are the same where the call may look: the same number, and afterwards they are the same there
-  pub number : (c : Call) (m m′ : Lent) → Same c m m′ → number c m ≡ number c m′
-  pub row : (c : Call) (l : Limits) (m m′ : Lent) (r r′ : ℕ) (s s′ : Three (List ℕ)) → Same c m m′ → FilterAnswer c l m r s → FilterAnswer c l m′ r′ s′
-      → (r ≡ r′) × Same c (left m s) (left m′ s′)
+  pub number : (c : Call) (m m′ : Lent) → SameLent c m m′ → number c m ≡ number c m′
+  pub row : (c : Call) (l : Limits) (m m′ : Lent) (r r′ : ℕ) (s s′ : Three (List ℕ)) → SameLent c m m′ → FilterAnswer c l m r s → FilterAnswer c l m′ r′ s′
+      → (r ≡ r′) × SameLent c (withSamples m s) (withSamples m′ s′)
   -- every other sample stays
   pub others : (c : Call) (l : Limits) (m : Lent) (r : ℕ) (s : Three (List ℕ)) → FilterAnswer c l m r s
-      → (n i : ℕ) → ¬ Seen c n i → getD (samples (left m s) n) i 0 ≡ getD (samples m n) i 0
+      → (n i : ℕ) → ¬ OwnSample c n i → getD (samples (withSamples m s) n) i 0 ≡ getD (samples m n) i 0
   -- so level bytes and masks elsewhere do not count at all
   pub tables : (c : Call) (l : Limits) (m m′ : Lent) (r r′ : ℕ) (s s′ : Three (List ℕ)) → threeOf m ≡ threeOf m′
       → SameTables c (m .levels) (m′ .levels) (m .masks) (m′ .masks) → FilterAnswer c l m r s → FilterAnswer c l m′ r′ s′ → (r ≡ r′) × (s ≡ s′)
   -- a call at its own moment is the frame's call
   pub call : (f : Frame) (g : Pass → ℕ → Moment) → OwnRows f g → (d : Pass) (k : ℕ) → k < sbRows f → (s : Three (List ℕ))
-      → (answer (at f (g d k)) d k s ≡ answer f d k s) × (after (at f (g d k)) d k s ≡ after f d k s)
+      → (answer (frameAt f (g d k)) d k s ≡ answer f d k s) × (after (frameAt f (g d k)) d k s ≡ after f d k s)
   -- and so are all calls, whichever they are and in whatever order
   pub calls : (f : Frame) (g : Pass → ℕ → Moment) → OwnRows f g → (l : List (Pass × ℕ)) → All (λ c. c .1 < sbRows f) l → (s : Three (List ℕ))
-      → run (λ c. after (at f (g (c .0) (c .1))) (c .0) (c .1)) l s ≡ run (λ c. after f (c .0) (c .1)) l s
+      → run (λ c. after (frameAt f (g (c .0) (c .1))) (c .0) (c .1)) l s ≡ run (λ c. after f (c .0) (c .1)) l s
   -- in turn, columns then rows of each superblock row
   pub turns : (f : Frame) (g : Pass → ℕ → Moment) → OwnRows f g → (s : Three (List ℕ))
       → upTo (turn f g) (sbRows f) s ≡ upTo (λ k t. after f rows k (after f columns k t)) (sbRows f) s
   -- the frame's calls are accepted exactly if these are, as they are made
-  pub accepted : (f : Frame) (g : Pass → ℕ → Moment) (s : Three (List ℕ)) → OwnRows f g → Exactly (Taken f g s) (Accepted f s)
+  pub accepted : (f : Frame) (g : Pass → ℕ → Moment) (s : Three (List ℕ)) → OwnRows f g → Exactly (TurnsTaken f g s) (Accepted f s)
   -- demand 3 of them
-  pub demand : (f : Frame) (g : Pass → ℕ → Moment) (s : Three (List ℕ)) → OwnRows f g → Taken f g s → BoundariesKept f → Turned f g s
+  pub demand : (f : Frame) (g : Pass → ℕ → Moment) (s : Three (List ℕ)) → OwnRows f g → TurnsTaken f g s → BoundariesKept f → Turned f g s
   -- what differs at other rows' units alone is the same to the call
   pub elsewhere : (c : Call) (ls ls′ ms ms′ : List ℕ) → Shaped c → Roomy c (length ls) (length ms) → Elsewhere c ls ls′ ms ms′ → SameTables c ls ls′ ms ms′
   -- such as a level byte or an edge of a later row

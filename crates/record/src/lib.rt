@@ -1,4 +1,4 @@
-// Recording of intra and inter blocks: level bytes, masks and contexts.
+// Public: one intra or inter block into level bytes, masks and contexts.
 mod level_bytes;
 mod masks;
 

@@ -14,15 +14,15 @@ use Rattle.record.specs.Record.{RecordAnswer}
 use Rattle.agree.specs.Legal.{Coded, left, top, Shows, Tells}
 use Rattle.agree.specs.Promises.{Agrees}
 use Rattle.agree.proofs.Theorems as agree
-use Rattle.covering.specs.Standard.{unitAt, rowOf, colOf}
-use Rattle.drawn.specs.Owner.{sweepOf}
+use Rattle.covering.specs.Standard.{transformAt, visitedRow, visitedCol}
+use Rattle.drawn.specs.Owner.{sweepIn}
 use Rattle.drawn.proofs.Calls.{luma-shape}
-use Rattle.recorded_edges.specs.Held.{placeIn, SeenIn, contextIn, Holds, Told}
+use Rattle.recorded_edges.specs.Held.{placeIn, SeenIn, lentContext, HoldsBlock, ContextTells}
 use Rattle.recorded_edges.proofs.Views.{blockIn, given, some-unit, owned, place-is}
 use Rattle.recorded_edges.proofs.Shown.{left-is, top-is, shows}
 
 module _ (D : Frame) (plane : ℕ) (C : Coded) (luma : Bool) (b : Block) (level-stride : ℕ) (values tm : List ℕ) (before after : Lent)
-    (R : RecordAnswer b level-stride values tm 0 before after) (H : Holds D plane C luma b tm) where
+    (R : RecordAnswer b level-stride values tm 0 before after) (H : HoldsBlock D plane C luma b tm) where
   abbrev B : recording.Block
   B = blockIn luma b tm before
 
@@ -33,8 +33,8 @@ module _ (D : Frame) (plane : ℕ) (C : Coded) (luma : Bool) (b : Block) (level-
   Y = placeIn luma b rows
 
   owns : (d : Pass) (p : Piece) → SeenIn luma b d p
-      → ((placeIn luma b d ≤ p .0) × (p .0 < placeIn luma b d + sweepOf d B .across))
-      × ((placeIn luma b (other d) ≤ p .1) × (p .1 < placeIn luma b (other d) + sweepOf d B .along))
+      → ((placeIn luma b d ≤ p .0) × (p .0 < placeIn luma b d + sweepIn d B .across))
+      × ((placeIn luma b (other d) ≤ p .1) × (p .1 < placeIn luma b (other d) + sweepIn d B .along))
   owns d p s =
       let o = owned b level-stride values tm before after R luma d p s in
       (rw (place-is b level-stride values tm before after R luma d) at (o .across), rw (place-is b level-stride values tm before after R luma (other d)) at (o .along))
@@ -45,8 +45,9 @@ module _ (D : Frame) (plane : ℕ) (C : Coded) (luma : Bool) (b : Block) (level-
       shows D C b level-stride values tm before after R plane luma H (given b level-stride values tm before after R luma d p s) (u .0) (u .1)
 
   pub agrees : (d : Pass) (p : Piece) → SeenIn luma b d p
-      → Agrees D plane (passNo d) (rowOf D plane d (p .1) (p .0)) (colOf D plane d (p .1) (p .0)) (sweepOf d B) (p .0 - placeIn luma b d) (p .1 - placeIn luma b (other d))
-      (unitAt D plane d (p .1) (placeIn luma b d - 1))
+      → Agrees D plane (passNo d) (visitedRow D plane d (p .1) (p .0)) (visitedCol D plane d (p .1) (p .0)) (sweepIn d B) (p .0 - placeIn luma b d)
+      (p .1 - placeIn luma b (other d))
+      (transformAt D plane d (p .1) (placeIn luma b d - 1))
   agrees columns p s =
       let o = owns columns p s in
       let x = p .0 - X in
@@ -70,10 +71,10 @@ module _ (D : Frame) (plane : ℕ) (C : Coded) (luma : Bool) (b : Block) (level-
       (subst (λ (c : ℕ). Agrees D plane 1 ((top D plane C + y) * 2 ^ D .sy plane) (c * 2 ^ D .sx plane) (recording.rows B) y x (D .TxSizes plane (top D plane C - 1) c)) zx
       (agree.promises .agrees D plane C B (H .legal) (shown rows p s) x y (omega (arith, o .1)) (omega (arith, o .0)) .1)))
 
-  pub context-is : (d : Pass) (v : ℕ) → sweepOf d B .context v ≡ getD (contextIn luma d before) v 0
+  pub context-is : (d : Pass) (v : ℕ) → sweepIn d B .context v ≡ getD (lentContext luma d before) v 0
   context-is d v = go luma d
     where
-      go : (k : Bool) (d : Pass) → sweepOf d (blockIn k b tm before) .context v ≡ getD (contextIn k d before) v 0
+      go : (k : Bool) (d : Pass) → sweepIn d (blockIn k b tm before) .context v ≡ getD (lentContext k d before) v 0
       go true columns = luma-shape b tm before .left-is v
       go true rows = luma-shape b tm before .above-is v
       go false columns = refl
@@ -83,9 +84,9 @@ module _ (D : Frame) (plane : ℕ) (C : Coded) (luma : Bool) (b : Block) (level-
   pub at-border : (d : Pass) (p : Piece) → SeenIn luma b d p → p .0 - placeIn luma b d ≡ 0 → p .0 ≡ placeIn luma b d
   at-border d p s z = omega (arith, owns d p s .0)
 
-  pub tells : (d : Pass) (p : Piece) → SeenIn luma b d p → Told D plane luma b before d p → p .0 - placeIn luma b d ≡ 0
-      → Tells plane (passNo d) (unitAt D plane d (p .1) (placeIn luma b d - 1)) (sweepOf d B .context (p .1 - placeIn luma b (other d)))
+  pub tells : (d : Pass) (p : Piece) → SeenIn luma b d p → ContextTells D plane luma b before d p → p .0 - placeIn luma b d ≡ 0
+      → Tells plane (passNo d) (transformAt D plane d (p .1) (placeIn luma b d - 1)) (sweepIn d B .context (p .1 - placeIn luma b (other d)))
   tells d p s t z =
       let e = at-border d p s z in
-      subst (λ (k : ℕ). Tells plane (passNo d) (unitAt D plane d (p .1) (k - 1)) (sweepOf d B .context (p .1 - placeIn luma b (other d)))) e
-      (subst (Tells plane (passNo d) (unitAt D plane d (p .1) (p .0 - 1))) (sym (context-is d (p .1 - placeIn luma b (other d)))) (t e))
+      subst (λ (k : ℕ). Tells plane (passNo d) (transformAt D plane d (p .1) (k - 1)) (sweepIn d B .context (p .1 - placeIn luma b (other d)))) e
+      (subst (Tells plane (passNo d) (transformAt D plane d (p .1) (p .0 - 1))) (sym (context-is d (p .1 - placeIn luma b (other d)))) (t e))

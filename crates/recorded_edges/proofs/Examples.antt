@@ -27,19 +27,19 @@ use Rattle.correct.specs.Answer.{columnOf, CorrectAnswer}
 use Rattle.correct.specs.Correct.{cleared, corrected, correctLine, done}
 use Rattle.correct.specs.Tests as correct
 use Rattle.agree.specs.Legal.{Tells}
-use Rattle.covering.specs.Standard.{unitAt}
-use Rattle.recorded_edges.specs.Held.{gridIn, SeenIn, Holds, Told, standardEdge, widthIn}
-use Rattle.recorded_edges.specs.Example.{frameOf, codedAt, blockAt, lentWith, Beside, TileStart, frameUv, codedUv, blockUv, lentUv, InChroma}
+use Rattle.covering.specs.Standard.{transformAt}
+use Rattle.recorded_edges.specs.Held.{blockGrid, SeenIn, HoldsBlock, ContextTells, standardEdge, widthIn}
+use Rattle.recorded_edges.specs.Example.{frameWith, codedAt, blockAt, lentWith, Beside, TileStart, frameUv, codedUv, blockUv, lentUv, InChroma}
 
 -- what an accepted call leaves
 abbrev left : ℕ → ℕ → List ℕ → Lent
-left blockWidth first l =
-    lent (lumaLevels (blockAt blockWidth first) 18 (replicate 64 0) (replicate 144 0)) (lumaMasks (blockAt blockWidth first) [] (2 ∷ 2 ∷ []) l (replicate 640 0))
-    (lumaAbove (blockAt blockWidth first) [] (2 ∷ 2 ∷ [])) (lumaLeft (blockAt blockWidth first) [] l) [] []
+left wide first l =
+    lent (lumaLevels (blockAt wide first) 18 (replicate 64 0) (replicate 144 0)) (lumaMasks (blockAt wide first) [] (2 ∷ 2 ∷ []) l (replicate 640 0))
+    (lumaAbove (blockAt wide first) [] (2 ∷ 2 ∷ [])) (lumaLeft (blockAt wide first) [] l) [] []
 
-holds : (blockWidth first before t : ℕ) → first % 2 ≡ 0 → Holds (frameOf blockWidth first before t) 0 (codedAt first) true (blockAt blockWidth first) []
+holds : (wide first before t : ℕ) → first % 2 ≡ 0 → HoldsBlock (frameWith wide first before t) 0 (codedAt first) true (blockAt wide first) []
 unfolding Num_4x4_Blocks_Wide Num_4x4_Blocks_High
-holds blockWidth first before t e =
+holds wide first before t e =
     record {
       plane-is = refl;
       right-ss = refl;
@@ -64,13 +64,13 @@ beside-answer : RecordAnswer (blockAt 16 2) 18 (replicate 64 0) [] 0 (lentWith (
 unfolding number bw4 bh4 cbw4 cbh4 anyBelow Num_4x4_Blocks_Wide Num_4x4_Blocks_High Tx_Wide Tx_High
 beside-answer = record { code = refl; levels = refl; masks = refl; above = refl; left = refl; above-uv = refl; left-uv = refl }
 
-between : (y : ℕ) → y < 2 → widthIn 0 (edge (gridIn true (blockAt 16 2)) (left 16 2 (1 ∷ 1 ∷ []) .masks) columns (2, y)) ≡ some 8
+between : (y : ℕ) → y < 2 → widthIn 0 (edge (blockGrid true (blockAt 16 2)) (left 16 2 (1 ∷ 1 ∷ []) .masks) columns (2, y)) ≡ some 8
 unfolding bw4 bh4 Num_4x4_Blocks_Wide Num_4x4_Blocks_High Tx_Wide Tx_High log2 inRecord gridMasks gridPass blockEdge stepEdges folds.edgeBit mark marks isSet hasBit bit edge edgeBit lumaBit
-between = each-at 2 (λ y. widthIn 0 (edge (gridIn true (blockAt 16 2)) (left 16 2 (1 ∷ 1 ∷ []) .masks) columns (2, y)) ≡ some 8) (refl, (refl, tt))
+between = each-at 2 (λ y. widthIn 0 (edge (blockGrid true (blockAt 16 2)) (left 16 2 (1 ∷ 1 ∷ []) .masks) columns (2, y)) ≡ some 8) (refl, (refl, tt))
 
-inside : (y : ℕ) → y < 2 → edge (gridIn true (blockAt 16 2)) (left 16 2 (1 ∷ 1 ∷ []) .masks) columns (3, y) ≡ none
+inside : (y : ℕ) → y < 2 → edge (blockGrid true (blockAt 16 2)) (left 16 2 (1 ∷ 1 ∷ []) .masks) columns (3, y) ≡ none
 unfolding bw4 bh4 Num_4x4_Blocks_Wide Num_4x4_Blocks_High Tx_Wide Tx_High log2 inRecord gridMasks gridPass blockEdge stepEdges folds.edgeBit mark marks isSet hasBit bit edge edgeBit lumaBit
-inside = each-at 2 (λ y. edge (gridIn true (blockAt 16 2)) (left 16 2 (1 ∷ 1 ∷ []) .masks) columns (3, y) ≡ none) (refl, (refl, tt))
+inside = each-at 2 (λ y. edge (blockGrid true (blockAt 16 2)) (left 16 2 (1 ∷ 1 ∷ []) .masks) columns (3, y) ≡ none) (refl, (refl, tt))
 
 tells : (y : ℕ) → y < 2 → Tells 0 0 1 (getD (1 ∷ 1 ∷ []) (y - 0) 0)
 unfolding Tx_Wide Tx_High log2
@@ -78,13 +78,13 @@ tells =
     each-at 2 (λ y. Tells 0 0 1 (getD (1 ∷ 1 ∷ []) (y - 0) 0))
     (record { code = omega arith; class = refl }, (record { code = omega arith; class = refl }, tt))
 
-told : (p : Piece) → SeenIn true (blockAt 16 2) columns p → Told (frameOf 16 2 3 1) 0 true (blockAt 16 2) (lentWith (1 ∷ 1 ∷ [])) columns p
+told : (p : Piece) → SeenIn true (blockAt 16 2) columns p → ContextTells (frameWith 16 2 3 1) 0 true (blockAt 16 2) (lentWith (1 ∷ 1 ∷ [])) columns p
 unfolding bh4 Num_4x4_Blocks_High
 told p s e = rw e (tells (p .1) (omega (arith, s .down)))
 
-beside-standard : (y : ℕ) → y < 2 → standardEdge (frameOf 16 2 3 1) 0 columns (2, y) ≡ some 8
+beside-standard : (y : ℕ) → y < 2 → standardEdge (frameWith 16 2 3 1) 0 columns (2, y) ≡ some 8
 unfolding applyFilter isTxEdge isBlockEdge edgeSize filterSize filterLen Num_4x4_Blocks_Wide Num_4x4_Blocks_High Tx_Wide Tx_High
-beside-standard = each-at 2 (λ y. standardEdge (frameOf 16 2 3 1) 0 columns (2, y) ≡ some 8) (refl, (refl, tt))
+beside-standard = each-at 2 (λ y. standardEdge (frameWith 16 2 3 1) 0 columns (2, y) ≡ some 8) (refl, (refl, tt))
 
 pub beside : Beside
 beside =
@@ -111,23 +111,23 @@ correction : CorrectAnswer (columnOf 72 8 400 64 0 1) (0 ∷ 0 ∷ []) [] 0 (lef
 unfolding correct.number anyBelow bw4 bh4 Num_4x4_Blocks_Wide Num_4x4_Blocks_High Tx_Wide Tx_High log2 inRecord gridMasks gridPass blockEdge stepEdges folds.edgeBit mark marks
 correction = record { code = refl; masks = refl }
 
-recorded : (y : ℕ) → y < 2 → widthIn 0 (edge (gridIn true (blockAt 72 16)) (left 72 16 (2 ∷ 2 ∷ []) .masks) columns (16, y)) ≡ some 8
+recorded : (y : ℕ) → y < 2 → widthIn 0 (edge (blockGrid true (blockAt 72 16)) (left 72 16 (2 ∷ 2 ∷ []) .masks) columns (16, y)) ≡ some 8
 unfolding bw4 bh4 Num_4x4_Blocks_Wide Num_4x4_Blocks_High Tx_Wide Tx_High log2 inRecord gridMasks gridPass blockEdge stepEdges folds.edgeBit mark marks isSet hasBit bit edge edgeBit lumaBit
-recorded = each-at 2 (λ y. widthIn 0 (edge (gridIn true (blockAt 72 16)) (left 72 16 (2 ∷ 2 ∷ []) .masks) columns (16, y)) ≡ some 8) (refl, (refl, tt))
+recorded = each-at 2 (λ y. widthIn 0 (edge (blockGrid true (blockAt 72 16)) (left 72 16 (2 ∷ 2 ∷ []) .masks) columns (16, y)) ≡ some 8) (refl, (refl, tt))
 
-corrected-now : (y : ℕ) → y < 2 → widthIn 0 (edge (gridIn true (blockAt 72 16)) now columns (16, y)) ≡ some 4
+corrected-now : (y : ℕ) → y < 2 → widthIn 0 (edge (blockGrid true (blockAt 72 16)) now columns (16, y)) ≡ some 4
 unfolding bw4 bh4 Num_4x4_Blocks_Wide Num_4x4_Blocks_High Tx_Wide Tx_High log2 inRecord gridMasks gridPass blockEdge stepEdges folds.edgeBit mark unmark marks isSet
     hasBit bit edge edgeBit lumaBit cleared corrected correctLine
-corrected-now = each-at 2 (λ y. widthIn 0 (edge (gridIn true (blockAt 72 16)) now columns (16, y)) ≡ some 4) (refl, (refl, tt))
+corrected-now = each-at 2 (λ y. widthIn 0 (edge (blockGrid true (blockAt 72 16)) now columns (16, y)) ≡ some 4) (refl, (refl, tt))
 
-kept : (y : ℕ) → y < 2 → Tells 0 0 (unitAt (frameOf 72 16 0 0) 0 columns y 15) (getD (0 ∷ 0 ∷ []) y 0)
+kept : (y : ℕ) → y < 2 → Tells 0 0 (transformAt (frameWith 72 16 0 0) 0 columns y 15) (getD (0 ∷ 0 ∷ []) y 0)
 unfolding Tx_Wide Tx_High log2
 kept =
     each-at 2 (λ y. Tells 0 0 0 (getD (0 ∷ 0 ∷ []) y 0)) (record { code = omega arith; class = refl }, (record { code = omega arith; class = refl }, tt))
 
-start-standard : (y : ℕ) → y < 2 → standardEdge (frameOf 72 16 0 0) 0 columns (16, y) ≡ some 4
+start-standard : (y : ℕ) → y < 2 → standardEdge (frameWith 72 16 0 0) 0 columns (16, y) ≡ some 4
 unfolding applyFilter isTxEdge isBlockEdge edgeSize filterSize filterLen Num_4x4_Blocks_Wide Num_4x4_Blocks_High Tx_Wide Tx_High
-start-standard = each-at 2 (λ y. standardEdge (frameOf 72 16 0 0) 0 columns (16, y) ≡ some 4) (refl, (refl, tt))
+start-standard = each-at 2 (λ y. standardEdge (frameWith 72 16 0 0) 0 columns (16, y) ≡ some 4) (refl, (refl, tt))
 
 pub tile-start : TileStart
 tile-start =
@@ -155,7 +155,7 @@ uv-answer : RecordAnswer blockUv 8 (replicate 64 0) [] 0 lentUv leftUv
 unfolding leftUv number bw4 bh4 cbw4 cbh4 anyBelow Num_4x4_Blocks_Wide Num_4x4_Blocks_High Tx_Wide Tx_High
 uv-answer = record { code = refl; levels = refl; masks = refl; above = refl; left = refl; above-uv = refl; left-uv = refl }
 
-uv-holds : Holds frameUv 1 codedUv false blockUv []
+uv-holds : HoldsBlock frameUv 1 codedUv false blockUv []
 unfolding Num_4x4_Blocks_Wide Num_4x4_Blocks_High
 uv-holds =
     record {
@@ -182,7 +182,7 @@ uv-tells =
     each-at 2 (λ y. Tells 1 0 1 (getD (1 ∷ 1 ∷ []) (y - 0) 0))
     (record { code = omega arith; class = refl }, (record { code = omega arith; class = refl }, tt))
 
-uv-told : (p : Piece) → SeenIn false blockUv columns p → Told frameUv 1 false blockUv lentUv columns p
+uv-told : (p : Piece) → SeenIn false blockUv columns p → ContextTells frameUv 1 false blockUv lentUv columns p
 unfolding cbh4 Num_4x4_Blocks_High
 uv-told p s e = uv-tells (p .1) (omega (arith, s .down))
 
@@ -190,10 +190,10 @@ uv-standard : (y : ℕ) → y < 2 → standardEdge frameUv 1 columns (2, y) ≡ 
 unfolding applyFilter isTxEdge isBlockEdge edgeSize filterSize filterLen Num_4x4_Blocks_Wide Num_4x4_Blocks_High Tx_Wide Tx_High
 uv-standard = each-at 2 (λ y. standardEdge frameUv 1 columns (2, y) ≡ some 6) (refl, (refl, tt))
 
-uv-between : (y : ℕ) → y < 2 → widthIn 1 (edge (gridIn false blockUv) (leftUv .masks) columns (2, y)) ≡ some 6
+uv-between : (y : ℕ) → y < 2 → widthIn 1 (edge (blockGrid false blockUv) (leftUv .masks) columns (2, y)) ≡ some 6
 unfolding leftUv bw4 bh4 cbw4 cbh4 Num_4x4_Blocks_Wide Num_4x4_Blocks_High Tx_Wide Tx_High log2 inRecord gridMasks gridPass blockEdge stepEdges folds.edgeBit mark marks
     isSet hasBit bit edge edgeBit chromaBit
-uv-between = each-at 2 (λ y. widthIn 1 (edge (gridIn false blockUv) (leftUv .masks) columns (2, y)) ≡ some 6) (refl, (refl, tt))
+uv-between = each-at 2 (λ y. widthIn 1 (edge (blockGrid false blockUv) (leftUv .masks) columns (2, y)) ≡ some 6) (refl, (refl, tt))
 
 pub in-chroma : InChroma
 in-chroma = record { after = leftUv; answer = uv-answer; holds = uv-holds; told = uv-told; standard = uv-standard; between = uv-between }

@@ -22,13 +22,13 @@ use Rattle.record.proofs.Answers as record-calls
 use Rattle.agree.specs.Legal.{Coded, left, top, blockWidth, blockHeight, Shows, Sized}
 use Rattle.agree.proofs.Theorems as agree
 use Rattle.drawn.proofs.Calls.{luma-shape}
-use Rattle.recorded_edges.specs.Held.{ssIn, placeIn, SeenIn, txIn, Holds}
+use Rattle.recorded_edges.specs.Held.{ssIn, placeIn, SeenIn, blockTx, HoldsBlock}
 use Rattle.recorded_edges.proofs.Views.{blockIn, givenIn, fits}
 
 at-most : (a b : ℕ) → ¬ (b < a) → a ≤ b
 at-most a b n = omega arith
 
-module _ (D : Frame) (plane : ℕ) (C : Coded) (luma : Bool) (b : Block) (tm : List ℕ) (H : Holds D plane C luma b tm) where
+module _ (D : Frame) (plane : ℕ) (C : Coded) (luma : Bool) (b : Block) (tm : List ℕ) (H : HoldsBlock D plane C luma b tm) where
   pub left-is : left D plane C ≡ placeIn luma b columns
   left-is = ap₂ chromaUnit (H .right-ss) (H .col)
 
@@ -42,11 +42,11 @@ module _ (D : Frame) (plane : ℕ) (C : Coded) (luma : Bool) (b : Block) (tm : L
   high-is = ap₂ (λ (s c : ℕ). chromaUnits s (Num_4x4_Blocks_High c)) (H .down-ss) (H .size)
 
   known-at : (x y : ℕ) → SeenIn luma b columns (placeIn luma b columns + x, placeIn luma b rows + y)
-      → D .TxSizes plane (top D plane C + y) (left D plane C + x) ≡ txIn luma b tm x y
+      → D .TxSizes plane (top D plane C + y) (left D plane C + x) ≡ blockTx luma b tm x y
   known-at x y s =
       ap₂ (λ (t l : ℕ). D .TxSizes plane (t + y) (l + x)) top-is left-is
       ∙ H .known (placeIn luma b columns + x, placeIn luma b rows + y) s
-      ∙ ap₂ (txIn luma b tm) (back (placeIn luma b columns) x) (back (placeIn luma b rows) y)
+      ∙ ap₂ (blockTx luma b tm) (back (placeIn luma b columns) x) (back (placeIn luma b rows) y)
     where
       back : (n x : ℕ) → n + x - n ≡ x
       back n x = omega arith
@@ -55,11 +55,11 @@ module _ (D : Frame) (C : Coded) (b : Block) (level-stride : ℕ) (values tm : L
   sound : ¬ BlockFault b
   sound = record-calls.promises .each b level-stride values tm 0 before after R .zero .only refl .2
 
-  luma-shows : Holds D 0 C true b tm → 0 < bw4 b → 0 < bh4 b → Shows D 0 C (blockIn true b tm before)
+  luma-shows : HoldsBlock D 0 C true b tm → 0 < bw4 b → 0 < bh4 b → Shows D 0 C (blockIn true b tm before)
   unfolding bw4 bh4
   luma-shows H w h = go (b .inter) refl
     where
-      sized : (tx : ℕ → ℕ → ℕ) → ((x y : ℕ) → txIn true b tm x y ≡ tx x y) → Sized D 0 C (bw4 b) (bh4 b) (b .tx) tx
+      sized : (tx : ℕ → ℕ → ℕ) → ((x y : ℕ) → blockTx true b tm x y ≡ tx x y) → Sized D 0 C (bw4 b) (bh4 b) (b .tx) tx
       sized tx e =
           record {
             wide-seen = (w, omega (arith, wide-is D 0 C true b tm H));
@@ -85,7 +85,7 @@ module _ (D : Frame) (C : Coded) (b : Block) (level-stride : ℕ) (values tm : L
           agree.promises .intra D C (b .y .0 % 32) (b .x .0 % 32) (bw4 b) (bh4 b) (b .tx) (before .above) (before .left)
           (sized (λ _ _. b .tx) (λ x y. ap (λ (i : Bool). cond i (txAt tm (b .tx) x y) (b .tx)) e)) (H .intra ∙ ap not e)
 
-  chroma-shows : (plane : ℕ) → Holds D plane C false b tm → b .chroma ≡ true → 0 < cbw4 b → 0 < cbh4 b → Shows D plane C (blockIn false b tm before)
+  chroma-shows : (plane : ℕ) → HoldsBlock D plane C false b tm → b .chroma ≡ true → 0 < cbw4 b → 0 < cbh4 b → Shows D plane C (blockIn false b tm before)
   unfolding cbw4 cbh4
   chroma-shows plane H g w h =
       subst (λ (s : Bool). Shows D plane C (recording.chromaBlock (cby4 b) (cbx4 b) (cbw4 b) (cbh4 b) s (b .uvtx) (before .above-uv) (before .left-uv))) (sym (H .skip))
@@ -104,9 +104,9 @@ module _ (D : Frame) (C : Coded) (b : Block) (level-stride : ℕ) (values tm : L
       some-chroma : 0 < plane
       some-chroma = let n = eqb-false plane 0 (H .plane-is) in omega arith
 
-  pub shows : (plane : ℕ) (luma : Bool) → Holds D plane C luma b tm → givenIn luma b ≡ true → 0 < blockIn luma b tm before .w4 → 0 < blockIn luma b tm before .h4
+  pub shows : (plane : ℕ) (luma : Bool) → HoldsBlock D plane C luma b tm → givenIn luma b ≡ true → 0 < blockIn luma b tm before .w4 → 0 < blockIn luma b tm before .h4
       → Shows D plane C (blockIn luma b tm before)
   shows plane true H g w h =
-      subst (λ (q : ℕ). Holds D q C true b tm → Shows D q C (blockIn true b tm before)) (sym (eqb-true plane 0 (H .plane-is)))
+      subst (λ (q : ℕ). HoldsBlock D q C true b tm → Shows D q C (blockIn true b tm before)) (sym (eqb-true plane 0 (H .plane-is)))
       (λ K. luma-shows K (omega (arith, luma-shape b tm before .w4-is)) (omega (arith, luma-shape b tm before .h4-is))) H
   shows plane false H g w h = chroma-shows plane H g w h

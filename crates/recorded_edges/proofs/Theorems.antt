@@ -27,10 +27,10 @@ use Rattle.correct.specs.Promises.{CorrectedUnit}
 use Rattle.correct.proofs.AnswerLaws as told
 use Rattle.agree.specs.Legal.{Coded, Tells}
 use Rattle.agree.specs.Promises.{widthOf, start, Agrees}
-use Rattle.covering.specs.Standard.{unitAt, rowOf, colOf}
-use Rattle.drawn.specs.Owner.{At, Owns, sweepOf}
+use Rattle.covering.specs.Standard.{transformAt, visitedRow, visitedCol, appliesAt}
+use Rattle.drawn.specs.Owner.{StandsIn, Owns, sweepIn}
 use Rattle.drawn.proofs.Corrects.{new-class}
-use Rattle.recorded_edges.specs.Held.{placeIn, gridIn, SeenIn, contextIn, Holds, Told, applies, standardEdge, stands, widthIn, greater, Stays}
+use Rattle.recorded_edges.specs.Held.{placeIn, blockGrid, SeenIn, lentContext, HoldsBlock, ContextTells, standardEdge, stands, widthIn, greater, Stays}
 use Rattle.recorded_edges.specs.Promises.{Promises}
 use Rattle.recorded_edges.proofs.Highest.{highest-same, none-set, raised, highest-raised, raised-stands, width-raised}
 use Rattle.recorded_edges.proofs.Views.{blockIn, owned, its-at, own-bit, other-bit}
@@ -57,32 +57,32 @@ inside G d p e =
 
 module _ (b : Block) (level-stride : ℕ) (values tm : List ℕ) (before after : Lent) (R : RecordAnswer b level-stride values tm 0 before after) where
   -- at every other unit nothing changes
-  stays : (luma : Bool) (d : Pass) (p : Piece) → ¬ SeenIn luma b d p → inFrame (gridIn luma b) d p ≡ true
-      → Stays (gridIn luma b) d p (before .masks) (after .masks)
+  stays : (luma : Bool) (d : Pass) (p : Piece) → ¬ SeenIn luma b d p → inFrame (blockGrid luma b) d p ≡ true
+      → Stays (blockGrid luma b) d p (before .masks) (after .masks)
   stays luma d p n e =
-      let i = inside (gridIn luma b) d p e in
+      let i = inside (blockGrid luma b) d p e in
       other-bit b level-stride values tm before after R luma d p n (i .0) (i .1)
 
   edge-stays : (luma : Bool) (d : Pass) (p : Piece) → ¬ SeenIn luma b d p
-      → edge (gridIn luma b) (after .masks) d p ≡ edge (gridIn luma b) (before .masks) d p
-  edge-stays luma d p n = go (inFrame (gridIn luma b) d p) refl
+      → edge (blockGrid luma b) (after .masks) d p ≡ edge (blockGrid luma b) (before .masks) d p
+  edge-stays luma d p n = go (inFrame (blockGrid luma b) d p) refl
     where
-      go : (e : Bool) → inFrame (gridIn luma b) d p ≡ e → edge (gridIn luma b) (after .masks) d p ≡ edge (gridIn luma b) (before .masks) d p
-      go false e = edge-outside (gridIn luma b) (after .masks) d p e ∙ sym (edge-outside (gridIn luma b) (before .masks) d p e)
+      go : (e : Bool) → inFrame (blockGrid luma b) d p ≡ e → edge (blockGrid luma b) (after .masks) d p ≡ edge (blockGrid luma b) (before .masks) d p
+      go false e = edge-outside (blockGrid luma b) (after .masks) d p e ∙ sym (edge-outside (blockGrid luma b) (before .masks) d p e)
       go true e =
-          let i = inside (gridIn luma b) d p e in
-          edge-inside (gridIn luma b) (after .masks) d p (i .0) (i .1)
-          ∙ highest-same (classes (gridIn luma b)) (λ c. isSet (before .masks) (edgeBit (gridIn luma b) d p c)) (λ c. isSet (after .masks) (edgeBit (gridIn luma b) d p c))
+          let i = inside (blockGrid luma b) d p e in
+          edge-inside (blockGrid luma b) (after .masks) d p (i .0) (i .1)
+          ∙ highest-same (classes (blockGrid luma b)) (λ c. isSet (before .masks) (edgeBit (blockGrid luma b) d p c)) (λ c. isSet (after .masks) (edgeBit (blockGrid luma b) d p c))
           (stays luma d p n e)
-          ∙ sym (edge-inside (gridIn luma b) (before .masks) d p (i .0) (i .1))
+          ∙ sym (edge-inside (blockGrid luma b) (before .masks) d p (i .0) (i .1))
 
   -- a visible unit: its edge in the block, of class k, is added
   module _ (luma : Bool) (d : Pass) (p : Piece) (s : SeenIn luma b d p) where
     abbrev G : Grid
-    G = gridIn luma b
+    G = blockGrid luma b
 
     abbrev S : Sweep
-    S = sweepOf d (blockIn luma b tm before)
+    S = sweepIn d (blockIn luma b tm before)
 
     abbrev u : ℕ
     u = p .0 - placeIn luma b d
@@ -93,7 +93,7 @@ module _ (b : Block) (level-stride : ℕ) (values tm : List ℕ) (before after :
     abbrev k : ℕ
     k = classAt S u v
 
-    A : At G (b .x .0 / 32) (b .y .0 / 32) (blockIn luma b tm before)
+    A : StandsIn G (b .x .0 / 32) (b .y .0 / 32) (blockIn luma b tm before)
     A = its-at b level-stride values tm before after R luma d p s
 
     within : (p .0 < unitsOf G d) × (p .1 < unitsOf G (other d))
@@ -106,7 +106,7 @@ module _ (b : Block) (level-stride : ℕ) (values tm : List ℕ) (before after :
     low : k < classes G
     low = go d
       where
-        go : (d : Pass) → classAt (sweepOf d (blockIn luma b tm before)) u v < classes G
+        go : (d : Pass) → classAt (sweepIn d (blockIn luma b tm before)) u v < classes G
         go columns = omega (arith, A .low (recording.columns (blockIn luma b tm before) .side u v))
         go rows = omega (arith, A .low (recording.rows (blockIn luma b tm before) .side u v))
 
@@ -127,25 +127,25 @@ module _ (b : Block) (level-stride : ℕ) (values tm : List ℕ) (before after :
             highest-same (classes G) old (λ c. isSet (after .masks) (edgeBit G d p c))
             (λ c h. own-bit b level-stride values tm before after R luma d p s c h ∙ ap (λ (x : Bool). old c || (x && eqb k c)) e ∙ or-false (old c))
 
-    module _ (D : Frame) (plane : ℕ) (C : Coded) (H : Holds D plane C luma b tm) where
+    module _ (D : Frame) (plane : ℕ) (C : Coded) (H : HoldsBlock D plane C luma b tm) where
       abbrev size : ℕ
-      size = filterLen plane (edgeSize D plane (passNo d) (rowOf D plane d (p .1) (p .0)) (colOf D plane d (p .1) (p .0)))
+      size = filterLen plane (edgeSize D plane (passNo d) (visitedRow D plane d (p .1) (p .0)) (visitedCol D plane d (p .1) (p .0)))
 
-      agreed : Agrees D plane (passNo d) (rowOf D plane d (p .1) (p .0)) (colOf D plane d (p .1) (p .0)) S u v (unitAt D plane d (p .1) (placeIn luma b d - 1))
+      agreed : Agrees D plane (passNo d) (visitedRow D plane d (p .1) (p .0)) (visitedCol D plane d (p .1) (p .0)) S u v (transformAt D plane d (p .1) (placeIn luma b d - 1))
       agreed = agrees D plane C luma b level-stride values tm before after R H d p s
 
-      now : edge G (after .masks) d p ≡ cond (applies D plane d p) (raised k (edge G (before .masks) d p)) (edge G (before .masks) d p)
+      now : edge G (after .masks) d p ≡ cond (appliesAt D plane d (p .1) (p .0)) (raised k (edge G (before .masks) d p)) (edge G (before .masks) d p)
       now = edge-now ∙ ap (λ (x : Bool). cond x (raised k (edge G (before .masks) d p)) (edge G (before .masks) d p)) (agreed .edge)
 
-      there : stands (edge G (after .masks) d p) ≡ (applies D plane d p || stands (edge G (before .masks) d p))
-      there = ap stands now ∙ go (applies D plane d p)
+      there : stands (edge G (after .masks) d p) ≡ (appliesAt D plane d (p .1) (p .0) || stands (edge G (before .masks) d p))
+      there = ap stands now ∙ go (appliesAt D plane d (p .1) (p .0))
         where
           go : (e : Bool) → stands (cond e (raised k (edge G (before .masks) d p)) (edge G (before .masks) d p)) ≡ (e || stands (edge G (before .masks) d p))
           go true = raised-stands k (edge G (before .masks) d p)
           go false = refl
 
-      sized : Told D plane luma b before d p → widthIn plane (edge G (after .masks) d p) ≡ greater (standardEdge D plane d p) (widthIn plane (edge G (before .masks) d p))
-      sized t = ap (widthIn plane) now ∙ go (applies D plane d p)
+      sized : ContextTells D plane luma b before d p → widthIn plane (edge G (after .masks) d p) ≡ greater (standardEdge D plane d p) (widthIn plane (edge G (before .masks) d p))
+      sized t = ap (widthIn plane) now ∙ go (appliesAt D plane d (p .1) (p .0))
         where
           width : widthOf plane k ≡ size
           width = agreed .width (tells D plane C luma b level-stride values tm before after R H d p s t)
@@ -158,7 +158,7 @@ module _ (b : Block) (level-stride : ℕ) (values tm : List ℕ) (before after :
       -- ---- a tile's start
 
       module _ (at : p .0 ≡ placeIn luma b d) (clear : edge G (before .masks) d p ≡ none)
-          (blockHeight : getD (contextIn luma d before) (p .1 - placeIn luma b (other d)) 0 ≡ start plane) where
+          (high : getD (lentContext luma d before) (p .1 - placeIn luma b (other d)) 0 ≡ start plane) where
         at-0 : u ≡ 0
         at-0 = omega arith
 
@@ -174,33 +174,33 @@ module _ (b : Block) (level-stride : ℕ) (values tm : List ℕ) (before after :
             ∙ ap₂ (λ (x y : Bool). x || (y && eqb k c))
             (none-set (classes G) (λ c. isSet (before .masks) (edgeBit G d p c)) (sym (edge-inside G (before .masks) d p (within .0) (within .1)) ∙ clear) c h) is-edge
 
-        kept-class : (c : ℕ) → Tells plane (passNo d) (unitAt D plane d (p .1) (p .0 - 1)) c → widthOf plane (min k c) ≡ size
+        kept-class : (c : ℕ) → Tells plane (passNo d) (transformAt D plane d (p .1) (p .0 - 1)) c → widthOf plane (min k c) ≡ size
         kept-class c t =
-            agreed .corrected at-0 (context-is D plane C luma b level-stride values tm before after R H d v ∙ blockHeight) c
-            (subst (λ (x : ℕ). Tells plane (passNo d) (unitAt D plane d (p .1) (x - 1)) c) at t)
+            agreed .corrected at-0 (context-is D plane C luma b level-stride values tm before after R H d v ∙ high) c
+            (subst (λ (x : ℕ). Tells plane (passNo d) (transformAt D plane d (p .1) (x - 1)) c) at t)
 
         whole : some size ≡ standardEdge D plane d p
         whole = sym (ap (λ (x : Bool). cond x (some size) none) (sym (agreed .edge) ∙ is-edge))
 
 corrected : (D : Frame) (plane : ℕ) (C : Coded) (luma : Bool) (b : Block) (level-stride : ℕ) (values tm : List ℕ) (before after : Lent)
-    → RecordAnswer b level-stride values tm 0 before after → Holds D plane C luma b tm
-    → (r : Start) (context context-uv masks masks′ : List ℕ) → CorrectAnswer r context context-uv 0 masks masks′ → 0 < begin r → gridAt r luma ≡ gridIn luma b
+    → RecordAnswer b level-stride values tm 0 before after → HoldsBlock D plane C luma b tm
+    → (r : Start) (context context-uv masks masks′ : List ℕ) → CorrectAnswer r context context-uv 0 masks masks′ → 0 < begin r → gridAt r luma ≡ blockGrid luma b
     → (p : Piece) → CorrectedUnit r luma p → SeenIn luma b (passOf (r .rowwise)) p → p .0 ≡ placeIn luma b (passOf (r .rowwise))
-    → edge (gridIn luma b) (before .masks) (passOf (r .rowwise)) p ≡ none
-    → getD (contextIn luma (passOf (r .rowwise)) before) (p .1 - placeIn luma b (other (passOf (r .rowwise)))) 0 ≡ start plane
-    → Stays (gridIn luma b) (passOf (r .rowwise)) p (after .masks) masks
-    → Tells plane (passNo (passOf (r .rowwise))) (unitAt D plane (passOf (r .rowwise)) (p .1) (p .0 - 1)) (getD (cond luma context context-uv) (p .1 - first r luma) 0)
-    → widthIn plane (edge (gridIn luma b) masks′ (passOf (r .rowwise)) p) ≡ standardEdge D plane (passOf (r .rowwise)) p
-corrected D plane C luma b level-stride values tm before after R H r context context-uv masks masks′ A begins E p unit s at clear blockHeight kept t =
+    → edge (blockGrid luma b) (before .masks) (passOf (r .rowwise)) p ≡ none
+    → getD (lentContext luma (passOf (r .rowwise)) before) (p .1 - placeIn luma b (other (passOf (r .rowwise)))) 0 ≡ start plane
+    → Stays (blockGrid luma b) (passOf (r .rowwise)) p (after .masks) masks
+    → Tells plane (passNo (passOf (r .rowwise))) (transformAt D plane (passOf (r .rowwise)) (p .1) (p .0 - 1)) (getD (cond luma context context-uv) (p .1 - first r luma) 0)
+    → widthIn plane (edge (blockGrid luma b) masks′ (passOf (r .rowwise)) p) ≡ standardEdge D plane (passOf (r .rowwise)) p
+corrected D plane C luma b level-stride values tm before after R H r context context-uv masks masks′ A begins E p unit s at clear high kept t =
     ap (λ (G : Grid). widthIn plane (edge G masks′ d p)) (sym E)
     ∙ ap (widthIn plane)
     (told.promises .each r context context-uv 0 masks masks′ A .edges refl begins luma p unit
     ∙ ap some (new-class r context context-uv masks masks′ A begins luma p c
     (subst (λ (G : Grid). c < classes G) (sym E) (low b level-stride values tm before after R luma d p s))
     (subst (λ (G : Grid). (i : ℕ) → i < classes G → isSet masks (edgeBit G d p i) ≡ eqb c i) (sym E)
-    (λ i h. kept i h ∙ alone b level-stride values tm before after R luma d p s D plane C H at clear blockHeight i h))))
-    ∙ ap some (kept-class b level-stride values tm before after R luma d p s D plane C H at clear blockHeight (getD (cond luma context context-uv) (p .1 - first r luma) 0) t)
-    ∙ whole b level-stride values tm before after R luma d p s D plane C H at clear blockHeight
+    (λ i h. kept i h ∙ alone b level-stride values tm before after R luma d p s D plane C H at clear high i h))))
+    ∙ ap some (kept-class b level-stride values tm before after R luma d p s D plane C H at clear high (getD (cond luma context context-uv) (p .1 - first r luma) 0) t)
+    ∙ whole b level-stride values tm before after R luma d p s D plane C H at clear high
   where
     d : Pass
     d = passOf (r .rowwise)

@@ -1,13 +1,12 @@
 -- A block of a call that records, beside the standard's frame, in luma or in chroma; and their edges. A unit is (across, along) the pass.
 --   ssIn luma b d              ss of the direction across the pass d
 --   placeIn luma b d           the block's first unit there
---   gridIn luma b              the plane's units
+--   blockGrid luma b           the plane's units
 --   SeenIn luma b d p          p is one of the visible units
---   contextIn luma d m         the context lent along the pass
---   txIn luma b tm x y         the transform of the block at a unit, counted from its corner
---   Holds                      the frame D has the call's block as C, a legal block, and LoopfilterTxSizes has its transforms
---   Told                       where the pass meets the block, the context holds the class of the transform before
---   applies D plane d p        7.14.2's applyFilter where 7.14.1 visits the unit
+--   lentContext luma d m       the context lent along the pass
+--   blockTx luma b tm x y      the transform of the block at a unit, counted from its corner
+--   HoldsBlock                 the frame D has the call's block as C, a legal block, and LoopfilterTxSizes has its transforms
+--   ContextTells               where the pass meets the block, the context holds the class of the transform before
 --   standardEdge D plane d p   the standard's edge: its filter's length, by 7.14.3, if applyFilter holds
 --   stands o                   there is an edge
 --   widthIn plane o            the width of an edge's class
@@ -23,7 +22,7 @@ use lib.ListN.{getD}
 use Rattle.bits.specs.Mark.{isSet}
 use Rattle.plane.specs.Line.{Pass, columns, rows, Piece, passNo, other}
 use Rattle.plane.specs.Plane.{right, down}
-use Rattle.standard.specs.Edge.{Frame, applyFilter, edgeSize}
+use Rattle.standard.specs.Edge.{Frame, edgeSize}
 use Rattle.standard.specs.FilterSize.{filterLen}
 use Rattle.units.specs.Units.{chromaUnit}
 use Rattle.edges.specs.Edges.{Grid, lumaGrid, chromaGrid, classes, edgeBit}
@@ -33,7 +32,7 @@ use Rattle.block.specs.Block.{w4, h4, ss-hor, ss-ver, Lent}
 use Rattle.record.specs.Recorded.{LumaSeen, ChromaSeen}
 use Rattle.agree.specs.Legal.{Coded, Legal, Tells}
 use Rattle.agree.specs.Promises.{widthOf}
-use Rattle.covering.specs.Standard.{unitAt, rowOf, colOf}
+use Rattle.covering.specs.Standard.{transformAt, visitedRow, visitedCol, appliesAt}
 
 -- ---- the call's block
 
@@ -46,27 +45,27 @@ abbrev pub placeIn : Bool → Block → Pass → ℕ
 placeIn luma b columns = chromaUnit (ssIn luma b columns) (b .x .0)
 placeIn luma b rows = chromaUnit (ssIn luma b rows) (b .y .0)
 
-abbrev pub gridIn : Bool → Block → Grid
-gridIn true b = lumaGrid (w4 b) (h4 b)
-gridIn false b = chromaGrid (ss-hor b) (ss-ver b) (w4 b) (h4 b)
+abbrev pub blockGrid : Bool → Block → Grid
+blockGrid true b = lumaGrid (w4 b) (h4 b)
+blockGrid false b = chromaGrid (ss-hor b) (ss-ver b) (w4 b) (h4 b)
 
 abbrev pub SeenIn : Bool → Block → Pass → Piece → Type 0
 SeenIn true b d p = LumaSeen b (right d p) (down d p)
 SeenIn false b d p = ChromaSeen b (right d p) (down d p)
 
-abbrev pub contextIn : Bool → Pass → Lent → List ℕ
-contextIn true columns m = m .left
-contextIn true rows m = m .above
-contextIn false columns m = m .left-uv
-contextIn false rows m = m .above-uv
+abbrev pub lentContext : Bool → Pass → Lent → List ℕ
+lentContext true columns m = m .left
+lentContext true rows m = m .above
+lentContext false columns m = m .left-uv
+lentContext false rows m = m .above-uv
 
-abbrev pub txIn : Bool → Block → List ℕ → ℕ → ℕ → ℕ
-txIn true b tm x y = cond (b .inter) (txAt tm (b .tx) x y) (b .tx)
-txIn false b tm x y = b .uvtx
+abbrev pub blockTx : Bool → Block → List ℕ → ℕ → ℕ → ℕ
+blockTx true b tm x y = cond (b .inter) (txAt tm (b .tx) x y) (b .tx)
+blockTx false b tm x y = b .uvtx
 
 -- ---- the standard's
 
-pub record Holds (D : Frame) (plane : ℕ) (C : Coded) (luma : Bool) (b : Block) (tm : List ℕ) : Type 0 where
+pub record HoldsBlock (D : Frame) (plane : ℕ) (C : Coded) (luma : Bool) (b : Block) (tm : List ℕ) : Type 0 where
   pub plane-is : eqb plane 0 ≡ luma
   pub right-ss : D .sx plane ≡ ssIn luma b columns
   pub down-ss : D .sy plane ≡ ssIn luma b rows
@@ -78,19 +77,19 @@ pub record Holds (D : Frame) (plane : ℕ) (C : Coded) (luma : Bool) (b : Block)
   pub skip : b .skip ≡ (C .Skip && not (C .isIntra))
   pub legal : Legal D plane C
   pub known : (p : Piece) → SeenIn luma b columns p
-      → unitAt D plane columns (p .1) (p .0) ≡ txIn luma b tm (p .0 - placeIn luma b columns) (p .1 - placeIn luma b rows)
+      → transformAt D plane columns (p .1) (p .0) ≡ blockTx luma b tm (p .0 - placeIn luma b columns) (p .1 - placeIn luma b rows)
 
-abbrev pub Told : Frame → ℕ → Bool → Block → Lent → Pass → Piece → Type 0
-Told D plane luma b m d p =
+abbrev pub ContextTells : Frame → ℕ → Bool → Block → Lent → Pass → Piece → Type 0
+ContextTells D plane luma b m d p =
     p .0 ≡ placeIn luma b d
-    → Tells plane (passNo d) (unitAt D plane d (p .1) (p .0 - 1)) (getD (contextIn luma d m) (p .1 - placeIn luma b (other d)) 0)
+    → Tells plane (passNo d) (transformAt D plane d (p .1) (p .0 - 1)) (getD (lentContext luma d m) (p .1 - placeIn luma b (other d)) 0)
 
 module _ (D : Frame) (plane : ℕ) (d : Pass) (p : Piece) where
-  abbrev pub applies : Bool
-  applies = applyFilter D plane (passNo d) (rowOf D plane d (p .1) (p .0)) (colOf D plane d (p .1) (p .0))
-
   abbrev pub standardEdge : Option ℕ
-  standardEdge = cond applies (some (filterLen plane (edgeSize D plane (passNo d) (rowOf D plane d (p .1) (p .0)) (colOf D plane d (p .1) (p .0))))) none
+  standardEdge =
+      cond (appliesAt D plane d (p .1) (p .0))
+      (some (filterLen plane (edgeSize D plane (passNo d) (visitedRow D plane d (p .1) (p .0)) (visitedCol D plane d (p .1) (p .0)))))
+      none
 
 -- ---- edges
 

@@ -1,4 +1,5 @@
-// Reads frames with steps on them, writes each step's number and what the steps leave of masks and planes. The records are those of oracle/FORMATS.md.
+// A program: reads frames with steps on them, writes each step's number and what the steps leave of masks and planes. The records are those
+// of oracle/FORMATS.md.
 mod memory;
 mod steps;
 

@@ -1,58 +1,29 @@
-// Lent memory: read, written, cut to a length.
-use libc::STDIN_FILENO;
-use libc::STDOUT_FILENO;
+// Lent memory, read and written.
 ghost use Prim.Native.Nat.{_<_, _≤_};
 ghost use lib.ListN.{length};
 ghost use Rattle.io.specs.Counts.{Counts};
 
-pub fn read(buf: &mut [u8]) -> bool {
-    io::read_full(STDIN_FILENO, buf) == buf.len()
-}
-
-fn write(buf: &[u8]) -> bool {
-    io::write_all(STDOUT_FILENO, buf)
-}
-
 pub fn write_number(number: u32) {
     let mut bytes = [0u8; 1];
     bytes[0] = (number % 256) as u8;
-    write(&bytes);
-}
-
-fn least(a: usize, b: usize) -> usize
-    ensures { λ r. ⌜ r ≤ a ⌝ }
-    ensures { λ r. ⌜ r ≤ b ⌝ }
-{
-    if a < b { a } else { b }
-}
-
-pub fn bytes(n: u32, of: &[u8]) -> usize
-    ensures { λ r. ⌜ Counts r (now (of .entry)) ⌝ }
-{
-    least(n as usize, of.len())
-}
-
-pub fn words(n: u32, of: &[u16]) -> usize
-    ensures { λ r. ⌜ Counts r (now (of .entry)) ⌝ }
-{
-    least(n as usize, of.len())
+    wire::write(&bytes);
 }
 
 pub fn read_bytes(n: u32, to: &mut [u8]) {
-    let m = bytes(n, to);
-    read(&mut to[..m]);
+    let m = wire::bytes(n as usize, to);
+    wire::read(&mut to[..m]);
 }
 
 pub fn write_bytes(n: u32, from: &[u8]) {
-    let m = bytes(n, from);
-    write(&from[..m]);
+    let m = wire::bytes(n as usize, from);
+    wire::write(&from[..m]);
 }
 
 fn page_size(words: usize, page: &[u8]) -> usize
     requires { ⌜ words ≤ 4096 ⌝ }
     ensures { λ r. ⌜ Counts r (now (page .entry)) ⌝ }
 {
-    least(2 * words, page.len())
+    wire::bytes(2 * words, page)
 }
 
 fn from_page(page: &[u8; 8192], to: &mut [u16])
@@ -65,7 +36,7 @@ fn send(page: &[u8], words: usize)
     requires { ⌜ words ≤ 4096 ⌝ }
 {
     let size = page_size(words, page);
-    write(&page[..size]);
+    wire::write(&page[..size]);
 }
 
 // The words below m of page k, of 4096 words.
@@ -79,11 +50,11 @@ fn read_page(to: &mut [u16], k: usize, m: usize)
     if m <= at {
         return;
     }
-    let n = least(m - at, 4096);
+    let n = wire::least(m - at, 4096);
     let end = at + n;
     let mut page = [0u8; 8192];
     let size = page_size(n, &page);
-    read(&mut page[..size]);
+    wire::read(&mut page[..size]);
     from_page(&page, &mut to[at..end]);
 }
 
@@ -97,7 +68,7 @@ fn write_page(from: &[u16], k: usize, m: usize)
     if m <= at {
         return;
     }
-    let n = least(m - at, 4096);
+    let n = wire::least(m - at, 4096);
     let end = at + n;
     let mut page = [0u8; 8192];
     wire::put_u16s(&mut page, 0, &from[at..end]);
@@ -105,14 +76,14 @@ fn write_page(from: &[u16], k: usize, m: usize)
 }
 
 pub fn read_words(n: u32, to: &mut [u16]) {
-    let m = words(n, to);
+    let m = wire::words(n as usize, to);
     for k in 0..16 {
         read_page(to, k, m);
     }
 }
 
 pub fn write_words(n: u32, from: &[u16]) {
-    let m = words(n, from);
+    let m = wire::words(n as usize, from);
     for k in 0..16 {
         write_page(from, k, m);
     }

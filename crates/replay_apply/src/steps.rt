@@ -5,7 +5,7 @@ ghost use Prim.Native.Nat.{_+_, _≤_};
 // A step's 96 bytes, and the contexts that it lends.
 fn read_step() -> [u8; 96] {
     let mut step = [0u8; 96];
-    memory::read(&mut step);
+    wire::read(&mut step);
     step
 }
 
@@ -71,9 +71,9 @@ fn correction(step: &[u8; 96], masks: &mut [u16]) -> u32 {
     let mut context_uv = [0u8; 256];
     let n_uv = wire::u16_at(step, 62) as u32;
     memory::read_bytes(n_uv, &mut context_uv);
-    let m = memory::words(wire::u32_at(step, 44), masks);
-    let a = memory::bytes(n, &context);
-    let b = memory::bytes(n_uv, &context_uv);
+    let m = wire::words(wire::u32_at(step, 44) as usize, masks);
+    let a = wire::bytes(n as usize, &context);
+    let b = wire::bytes(n_uv as usize, &context_uv);
     corrected(step, &context[..a], &context_uv[..b], &mut masks[..m])
 }
 
@@ -150,11 +150,11 @@ fn filtered_8(
     u: &mut [u8],
     v: &mut [u8],
 ) -> u32 {
-    let l = memory::bytes(wire::u32_at(step, 40), levels);
-    let m = memory::words(wire::u32_at(step, 44), masks);
-    let a = memory::bytes(wire::u32_at(step, 48), luma);
-    let b = memory::bytes(wire::u32_at(step, 52), u);
-    let c = memory::bytes(wire::u32_at(step, 56), v);
+    let l = wire::bytes(wire::u32_at(step, 40) as usize, levels);
+    let m = wire::words(wire::u32_at(step, 44) as usize, masks);
+    let a = wire::bytes(wire::u32_at(step, 48) as usize, luma);
+    let b = wire::bytes(wire::u32_at(step, 52) as usize, u);
+    let c = wire::bytes(wire::u32_at(step, 56) as usize, v);
     pass_8(
         step,
         e,
@@ -285,11 +285,11 @@ fn filtered_16(
     u: &mut [u16],
     v: &mut [u16],
 ) -> u32 {
-    let l = memory::bytes(wire::u32_at(step, 40), levels);
-    let m = memory::words(wire::u32_at(step, 44), masks);
-    let a = memory::words(wire::u32_at(step, 48), luma);
-    let b = memory::words(wire::u32_at(step, 52), u);
-    let c = memory::words(wire::u32_at(step, 56), v);
+    let l = wire::bytes(wire::u32_at(step, 40) as usize, levels);
+    let m = wire::words(wire::u32_at(step, 44) as usize, masks);
+    let a = wire::words(wire::u32_at(step, 48) as usize, luma);
+    let b = wire::words(wire::u32_at(step, 52) as usize, u);
+    let c = wire::words(wire::u32_at(step, 56) as usize, v);
     pass_16(
         step,
         e,

@@ -1,4 +1,4 @@
-// Reads headers, writes what `levels` answers. The records are those of oracle/FORMATS.md.
+// A program: reads headers, writes what `levels` answers. The records are those of oracle/FORMATS.md.
 use libc::STDIN_FILENO;
 use libc::STDOUT_FILENO;
 

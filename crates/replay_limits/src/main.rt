@@ -1,4 +1,4 @@
-// Reads sharpnesses, writes what `limits` answers. The records are those of oracle/FORMATS.md.
+// A program: reads sharpnesses, writes what `limits` answers. The records are those of oracle/FORMATS.md.
 use libc::STDIN_FILENO;
 use libc::STDOUT_FILENO;
 

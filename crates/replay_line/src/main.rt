@@ -1,5 +1,5 @@
-// Reads lines of samples, writes them as `piece` filters them. The records are those of oracle/FORMATS.md. Each line stands four times in a plane,
-// along its rows or, where the level is odd, down its columns; sample k of the answer comes from line k % 4.
+// A program: reads lines of samples, writes them as `piece` filters them. The records are those of oracle/FORMATS.md. Each line stands four
+// times in a plane, along its rows or, where the level is odd, down its columns; sample k of the answer comes from line k % 4.
 ghost use mathlib.Core.Path.{_≡_};
 ghost use Prim.Native.Nat.{_+_, _-_, _*_, _<_, _≤_};
 ghost use Rattle.replay_line.specs.Capped.{Capped};

@@ -1,24 +1,11 @@
-// Reads scripts, each after the length of its parts and its own length, in four bytes each. Lists each as it comes, in parts, and once more whole,
-// and says where the two differ. Of parts of 4,096 bytes and more it writes the listing too. `scripts/cases.py` makes the scripts.
-ghost use Rattle.io.specs.Counts.{Counts};
-ghost use Prim.Native.Nat.{_≤_};
+// A program: reads scripts, lists each in parts and once more whole, and says where the two differ. Each stands after the length of its
+// parts and its own length, in four bytes each. Of parts of 4,096 bytes and more it writes the listing too. `scripts/cases.py` makes the
+// scripts.
 use libc::STDIN_FILENO;
 use libc::STDOUT_FILENO;
 use list_reading::listed;
 
 const WRITTEN: usize = 4096;
-
-fn least(n: usize, most: usize) -> usize
-    ensures { λ r. ⌜ r ≤ most ⌝ }
-{
-    if n < most { n } else { most }
-}
-
-fn bytes(n: usize, of: &[u8]) -> usize
-    ensures { λ r. ⌜ Counts r (now (of .entry)) ⌝ }
-{
-    least(n, of.len())
-}
 
 // What a refused line left unread.
 fn read_rest(script: &mut [u8], read: usize, total: usize) {
@@ -32,7 +19,7 @@ fn read_rest(script: &mut [u8], read: usize, total: usize) {
 fn compare(script: &[u8], text: &[u8]) {
     let mut out = [0u8; 393255];
     let n = list_call::list(script, &mut out);
-    let m = bytes(n, &out);
+    let m = wire::bytes(n, &out);
     if !check::same(text, &out[..m]) {
         io::write_all(STDOUT_FILENO, b"the listing of the whole script differs\n");
     }
@@ -41,7 +28,7 @@ fn compare(script: &[u8], text: &[u8]) {
 // A script that fills its memory is not there whole.
 fn compare_whole(script: &[u8], total: usize, text: &[u8]) {
     if total < script.len() {
-        let m = bytes(total, script);
+        let m = wire::bytes(total, script);
         compare(&script[..m], text);
     }
 }

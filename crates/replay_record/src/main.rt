@@ -1,24 +1,13 @@
-// Reads blocks with lent memory, writes what `record` answers and the memory afterwards. The records are those of oracle/FORMATS.md.
+// A program: reads blocks with lent memory, writes what `record` answers and the memory afterwards. The records are those of
+// oracle/FORMATS.md.
 ghost use mathlib.Core.Path.{_≡_};
-ghost use Prim.Native.Nat.{_≤_};
 ghost use lib.ListN.{length};
-ghost use Rattle.io.specs.Counts.{Counts};
-use libc::STDIN_FILENO;
-use libc::STDOUT_FILENO;
-
-fn read(buf: &mut [u8]) -> bool {
-    io::read_full(STDIN_FILENO, buf) == buf.len()
-}
-
-fn write(buf: &[u8]) -> bool {
-    io::write_all(STDOUT_FILENO, buf)
-}
 
 fn read_masks() -> [u16; 2560]
     ensures { λ r. ⌜ 2560 ≡ length r ⌝ }
 {
     let mut bytes = [0u8; 5120];
-    read(&mut bytes);
+    wire::read(&mut bytes);
     let mut masks = [0u16; 2560];
     wire::u16s_at(&bytes, 0, &mut masks);
     masks
@@ -27,13 +16,13 @@ fn read_masks() -> [u16; 2560]
 fn write_masks(masks: &[u16; 2560]) {
     let mut bytes = [0u8; 5120];
     wire::put_u16s(&mut bytes, 0, masks);
-    write(&bytes);
+    wire::write(&bytes);
 }
 
 fn write_number(number: u32) {
     let mut bytes = [0u8; 16];
     bytes[0] = (number % 256) as u8;
-    write(&bytes);
+    wire::write(&bytes);
 }
 
 fn intra(
@@ -104,25 +93,6 @@ fn inter(
     )
 }
 
-fn least(n: u32, most: usize) -> usize
-    ensures { λ r. ⌜ r ≤ most ⌝ }
-{
-    let m = n as usize;
-    if m < most { m } else { most }
-}
-
-fn bytes(n: u32, of: &[u8]) -> usize
-    ensures { λ r. ⌜ Counts r (now (of .entry)) ⌝ }
-{
-    least(n, of.len())
-}
-
-fn words(n: u32, of: &[u16]) -> usize
-    ensures { λ r. ⌜ Counts r (now (of .entry)) ⌝ }
-{
-    least(n, of.len())
-}
-
 // Lends as much of each as the record says.
 fn recorded(
     head: &[u8; 64],
@@ -134,12 +104,12 @@ fn recorded(
     above_uv: &mut [u8],
     left_uv: &mut [u8],
 ) -> u32 {
-    let l = bytes(wire::u32_at(head, 48), levels);
-    let m = words(wire::u32_at(head, 52), masks);
-    let a = bytes(wire::u8_at(head, 56), above);
-    let b = bytes(wire::u8_at(head, 57), left);
-    let c = bytes(wire::u8_at(head, 58), above_uv);
-    let d = bytes(wire::u8_at(head, 59), left_uv);
+    let l = wire::bytes(wire::u32_at(head, 48) as usize, levels);
+    let m = wire::words(wire::u32_at(head, 52) as usize, masks);
+    let a = wire::bytes(wire::u8_at(head, 56) as usize, above);
+    let b = wire::bytes(wire::u8_at(head, 57) as usize, left);
+    let c = wire::bytes(wire::u8_at(head, 58) as usize, above_uv);
+    let d = wire::bytes(wire::u8_at(head, 59) as usize, left_uv);
     if head[0] == 0 {
         return intra(
             head,
@@ -166,22 +136,22 @@ fn recorded(
 
 fn replayed() -> bool {
     let mut head = [0u8; 64];
-    if !read(&mut head) {
+    if !wire::read(&mut head) {
         return false;
     }
     let mut values = [0u8; 64];
-    read(&mut values);
+    wire::read(&mut values);
     let mut above = [0u8; 32];
-    read(&mut above);
+    wire::read(&mut above);
     let mut left = [0u8; 32];
-    read(&mut left);
+    wire::read(&mut left);
     let mut above_uv = [0u8; 32];
-    read(&mut above_uv);
+    wire::read(&mut above_uv);
     let mut left_uv = [0u8; 32];
-    read(&mut left_uv);
+    wire::read(&mut left_uv);
     let mut masks = read_masks();
     let mut levels = [0u8; 8192];
-    read(&mut levels);
+    wire::read(&mut levels);
     let number = recorded(
         &head,
         &values,
@@ -193,12 +163,12 @@ fn replayed() -> bool {
         &mut left_uv,
     );
     write_number(number);
-    write(&above);
-    write(&left);
-    write(&above_uv);
-    write(&left_uv);
+    wire::write(&above);
+    wire::write(&left);
+    wire::write(&above_uv);
+    wire::write(&left_uv);
     write_masks(&masks);
-    write(&levels)
+    wire::write(&levels)
 }
 
 fn main() {

@@ -16,12 +16,12 @@ use Rattle.units.proofs.Places.{ss-hor-le, ss-ver-le}
 use Rattle.block.specs.declared.Block.{Block}
 use Rattle.block.specs.Block.{w4, h4, blockWidth, blockHeight, ss-hor, ss-ver, bw4, bh4, chromaSide, cbw4, cbh4}
 use Rattle.record.specs.Recorded.{LumaSeen, ChromaSeen}
-use Rattle.screen.specs.Screen.{shown, unitsIn, InFrame, AtStart, of-columns, of-rows, Taken, UnitOf}
+use Rattle.screen.specs.Screen.{unitOnScreen, planeUnits, UnitInFrame, AtStart, of-columns, of-rows, TakenIn, UnitOf}
 use Rattle.screen.specs.Promises.{Promises}
 
 -- ---- one direction
 
-before-end : (ss u side : ℕ) → ss ≤ 1 → Exactly (4 * (u * 2 ^ ss) < side) (u < unitsIn ss side)
+before-end : (ss u side : ℕ) → ss ≤ 1 → Exactly (4 * (u * 2 ^ ss) < side) (u < planeUnits ss side)
 before-end zero u side h = record { only = λ l. omega arith; always = λ l. omega arith }
 before-end (suc zero) u side h = record { only = λ l. omega arith; always = λ l. omega arith }
 before-end (suc (suc s)) u side h = absurd (omega arith)
@@ -55,7 +55,7 @@ module _ (D : Frame) (plane pass x y : ℕ) (hor : D .sx plane ≤ 1) (ver : D .
   abbrev no-row : Bool
   no-row = not (eqb pass 1 && eqb (4 * (y * 2 ^ D .sy plane)) 0)
 
-  in-units : (right && low && no-column && no-row) ≡ true → InFrame D plane x y × (¬ AtStart pass x y)
+  in-units : (right && low && no-column && no-row) ≡ true → UnitInFrame D plane x y × (¬ AtStart pass x y)
   in-units e =
       let a = and-eq-true-iff (right && low && no-column) no-row .0 e in
       let b = and-eq-true-iff (right && low) no-column .0 (a .0) in
@@ -71,7 +71,7 @@ module _ (D : Frame) (plane pass x y : ℕ) (hor : D .sx plane ≤ 1) (ver : D .
       apart f g (of-columns p z) = inner pass 0 x (D .sx plane) .only f (p, z)
       apart f g (of-rows p z) = inner pass 1 y (D .sy plane) .only g (p, z)
 
-  in-samples : InFrame D plane x y → ¬ AtStart pass x y → (right && low && no-column && no-row) ≡ true
+  in-samples : UnitInFrame D plane x y → ¬ AtStart pass x y → (right && low && no-column && no-row) ≡ true
   in-samples i n =
       ap₂ _&&_
       (ap₂ _&&_
@@ -80,7 +80,7 @@ module _ (D : Frame) (plane pass x y : ℕ) (hor : D .sx plane ≤ 1) (ver : D .
       (inner pass 0 x (D .sx plane) .always (λ z. n (of-columns (z .0) (z .1)))))
       (inner pass 1 y (D .sy plane) .always (λ z. n (of-rows (z .0) (z .1))))
 
-  on-screen : Exactly (shown D plane pass x y ≡ true) (InFrame D plane x y × (¬ AtStart pass x y))
+  on-screen : Exactly (unitOnScreen D plane pass x y ≡ true) (UnitInFrame D plane x y × (¬ AtStart pass x y))
   unfolding onScreen
   on-screen = record { only = in-units; always = λ i. in-samples (i .0) (i .1) }
 
@@ -90,20 +90,20 @@ module _ (D : Frame) (plane pass x y : ℕ) (hor : D .sx plane ≤ 1) (ver : D .
 cut : (all at n u : ℕ) → (at ≤ u) × (u < at + n) → Exactly ((at ≤ u) × (u < at + min (all - at) n)) (u < all)
 cut all at n u h = record { only = λ l. omega arith; always = λ l. omega arith }
 
-module _ (D : Frame) (plane : ℕ) (b : Block) (hor ver : ℕ) (t : Taken D plane b hor ver) (x y : ℕ) (u : UnitOf D plane b x y) where
+module _ (D : Frame) (plane : ℕ) (b : Block) (hor ver : ℕ) (t : TakenIn D plane b hor ver) (x y : ℕ) (u : UnitOf D plane b x y) where
   across : Exactly ((chromaUnit hor (b .x .0) ≤ x) × (x < chromaUnit hor (b .x .0) + chromaSide (w4 b) (b .x .0) (blockWidth b) hor))
-      (x < unitsIn (D .sx plane) (D .FrameWidth))
+      (x < planeUnits (D .sx plane) (D .FrameWidth))
   across =
       rw (t .width, t .right-ss)
       (cut (chromaUnits hor (w4 b)) (chromaUnit hor (b .x .0)) (chromaUnits hor (blockWidth b)) x (rw (t .right-ss) at (u .across)))
 
   down : Exactly ((chromaUnit ver (b .y .0) ≤ y) × (y < chromaUnit ver (b .y .0) + chromaSide (h4 b) (b .y .0) (blockHeight b) ver))
-      (y < unitsIn (D .sy plane) (D .FrameHeight))
+      (y < planeUnits (D .sy plane) (D .FrameHeight))
   down =
       rw (t .height, t .down-ss)
       (cut (chromaUnits ver (h4 b)) (chromaUnit ver (b .y .0)) (chromaUnits ver (blockHeight b)) y (rw (t .down-ss) at (u .down)))
 
-luma : (D : Frame) (b : Block) → Taken D 0 b 0 0 → (x y : ℕ) → UnitOf D 0 b x y → Exactly (LumaSeen b x y) (InFrame D 0 x y)
+luma : (D : Frame) (b : Block) → TakenIn D 0 b 0 0 → (x y : ℕ) → UnitOf D 0 b x y → Exactly (LumaSeen b x y) (UnitInFrame D 0 x y)
 unfolding bw4 bh4
 luma D b t x y u =
     let a = across D 0 b 0 0 t x y u in
@@ -113,8 +113,8 @@ luma D b t x y u =
       always = λ i. record { across = omega (arith, a .always (i .across)); down = omega (arith, d .always (i .down)) };
     }
 
-chroma : (D : Frame) (plane : ℕ) (b : Block) → Taken D plane b (ss-hor b) (ss-ver b) → b .chroma ≡ true → (x y : ℕ) → UnitOf D plane b x y
-    → Exactly (ChromaSeen b x y) (InFrame D plane x y)
+chroma : (D : Frame) (plane : ℕ) (b : Block) → TakenIn D plane b (ss-hor b) (ss-ver b) → b .chroma ≡ true → (x y : ℕ) → UnitOf D plane b x y
+    → Exactly (ChromaSeen b x y) (UnitInFrame D plane x y)
 unfolding cbw4 cbh4
 chroma D plane b t g x y u =
     let a = across D plane b (ss-hor b) (ss-ver b) t x y u in
@@ -125,8 +125,8 @@ chroma D plane b t g x y u =
     }
 
 -- past unit 0 the frame is the screen
-past : (D : Frame) (plane pass x y : ℕ) → D .sx plane ≤ 1 → D .sy plane ≤ 1 → ¬ AtStart pass x y → (A : Type 0) → Exactly A (InFrame D plane x y)
-    → Exactly A (shown D plane pass x y ≡ true)
+past : (D : Frame) (plane pass x y : ℕ) → D .sx plane ≤ 1 → D .sy plane ≤ 1 → ¬ AtStart pass x y → (A : Type 0) → Exactly A (UnitInFrame D plane x y)
+    → Exactly A (unitOnScreen D plane pass x y ≡ true)
 past D plane pass x y hor ver n A e =
     let s = on-screen D plane pass x y hor ver in
     record { only = λ a. s .always (e .only a, n); always = λ o. e .always (s .only o .0) }

@@ -14,8 +14,9 @@ use Rattle.plane.specs.Three.{Three}
 use Rattle.plane.proofs.Pieces.{inner-some, idle}
 use Rattle.line.specs.Width.{reads}
 use Rattle.limits.specs.Limits.{limitsOf}
+use Rattle.gap.proofs.NumbersMean.{edge-in}
 use Rattle.filter.specs.declared.Component.{Component}
-use Rattle.filter.specs.Filter.{Tables}
+use Rattle.filter.specs.Filter.{Tables, gridOf}
 use Rattle.filter.specs.Ready.{Stored}
 use Rattle.checks.specs.Call.{samples, strideOf, chromaOn, Filtered, luma, chroma-u, chroma-v}
 use Rattle.checks.proofs.Accepted.{filtered-u, filtered-v}
@@ -24,12 +25,12 @@ use Rattle.apply.specs.Apply.{componentOf, tablesOf, shown, planeAt}
 use Rattle.order.specs.Demand3.{Order, allOf, Orders}
 use Rattle.frames.specs.Calls.{Frame, callAt, lentOf, after, planes, sbRows, Accepted, BoundariesKept}
 use Rattle.frames.specs.Promises.{Demand}
-use Rattle.frames.proofs.GapKept.{in-frame, some-sb, in-superblocks}
+use Rattle.frames.proofs.GapKept.{some-sb, in-superblocks}
 use Rattle.frames.proofs.Sweeps.{shown-none}
 use Rattle.frames.proofs.Stays.{Done, done}
 use Rattle.frames.proofs.Theorems as frames
-use Rattle.standard_planes.specs.Piece.{lenAt, There}
-use Rattle.standard_planes.specs.Frame.{Sharp, levelIn, Filters, Steps, ByStandard}
+use Rattle.standard_planes.specs.Piece.{widthAt, There}
+use Rattle.standard_planes.specs.Frame.{Sharp, frameLevel, Filters, Steps, ByStandard}
 use Rattle.standard_planes.proofs.Pieces.{limits-are, no-level, piece-is}
 use Rattle.standard_planes.proofs.PieceSamples.{asked-row}
 use Rattle.standard_planes.proofs.Steps.{steps, run-long, only}
@@ -67,9 +68,9 @@ module _ (f : Frame) (s : Three (List ℕ)) (a : Accepted f s) where
 
     below : (d : Pass) (p : Piece) (cls : ℕ) → class P d p ≡ some cls → down d p < P .sbs * P .sb
     below columns p cls e =
-        in-superblocks (p .1) _ _ _ (stored .size) (stored .proper .ss-ver-le) (in-frame C T columns p cls (inner-some (p .0) _ cls e .1) .1)
+        in-superblocks (p .1) _ _ _ (stored .size) (stored .proper .ss-ver-le) (edge-in (gridOf C) (T .masks) columns p cls (inner-some (p .0) _ cls e .1) .1)
     below rows p cls e =
-        in-superblocks (p .0) _ _ _ (stored .size) (stored .proper .ss-ver-le) (in-frame C T rows p cls (inner-some (p .0) _ cls e .1) .0)
+        in-superblocks (p .0) _ _ _ (stored .size) (stored .proper .ss-ver-le) (edge-in (gridOf C) (T .masks) rows p cls (inner-some (p .0) _ cls e .1) .0)
 
     -- the superblock row of an edge piece
     row : (d : Pass) (p : Piece) (cls : ℕ) → class P d p ≡ some cls → (k : ℕ) × (k < sbRows f) × InRow P d k p
@@ -82,7 +83,7 @@ module _ (f : Frame) (s : Three (List ℕ)) (a : Accepted f s) where
 
     -- what the call of that row asks of it
     asks : (d : Pass) (p : Piece) (cls : ℕ) → class P d p ≡ some cls
-        → (levelIn f n d p ≤ 63) × There d (strideOf (f .head) n) (reads (lenAt n cls)) p (length (samples (lentOf f s) n))
+        → (frameLevel f n d p ≤ 63) × There d (strideOf (f .head) n) (reads (widthAt n cls)) p (length (samples (lentOf f s) n))
     asks d p cls e =
         let r = row d p cls e in
         asked-row C _ _ stored (r .0) p cls d (its d (r .0) (r .1) .fit) (r .2) e

@@ -25,7 +25,7 @@ use Rattle.line.proofs.Rules.{length-span}
 use Rattle.piece.specs.Samples.{index}
 use Rattle.piece.proofs.Places.{getD-span}
 use Rattle.piece.proofs.Lines.{by-samples}
-use Rattle.standard_planes.specs.Piece.{at, lineIn, There, Standard}
+use Rattle.standard_planes.specs.Piece.{sampleAt, pieceLine, There, Standard}
 
 -- ---- several stores
 
@@ -90,14 +90,14 @@ module _ (d : Pass) (S : ℕ) {len : ℕ} (w : Width len) (t : Bounds) (p : Piec
       go columns r = omega (arith, v .from, v .to, ok .start)
       go rows r = omega arith
 
-  one-place : (i k j m : ℕ) → i < 4 → j < 4 → Within R k → Within R m → at d S p i k ≡ at d S p j m → (i ≡ j) × (k ≡ m)
+  one-place : (i k j m : ℕ) → i < 4 → j < 4 → Within R k → Within R m → sampleAt d S p i k ≡ sampleAt d S p j m → (i ≡ j) × (k ≡ m)
   one-place i k j m a b v u e =
       let x = ix-one d S _ _ _ _ (in-stride i k a v) (in-stride j m b u) e in
       (omega (arith, x .0), omega (arith, x .1, v .from, u .from, ok .start))
 
   -- ---- one line, of a list in which it stands as x
 
-  module _ (i : ℕ) (hi : i < 4) (s : List ℕ) (long : length s ≡ size) (x : ℕ → ℕ) (same : (k : ℕ) → Within R k → x k ≡ lineIn d S p i s k) where
+  module _ (i : ℕ) (hi : i < 4) (s : List ℕ) (long : length s ≡ size) (x : ℕ → ℕ) (same : (k : ℕ) → Within R k → x k ≡ pieceLine d S p i s k) where
     abbrev n : ℕ
     n = side len t x
 
@@ -110,7 +110,7 @@ module _ (d : Pass) (S : ℕ) {len : ℕ} (w : Width len) (t : Bounds) (p : Piec
         by-samples w t (q i) sample-step s (from-start d S _ _ R (ok .start)) x
         (record { same = λ k v. same k v ∙ ap (λ j. getD s j 0) (sym (ix-place d S _ _ k (omega (arith, v .from, ok .start)))) })
 
-    store-at : (j : ℕ) → q i - n * sample-step + j * sample-step ≡ at d S p i (8 - n + j)
+    store-at : (j : ℕ) → q i - n * sample-step + j * sample-step ≡ sampleAt d S p i (8 - n + j)
     store-at j =
         let z = sizes w in
         ix-store d S _ _ n j (omega (arith, few, ok .start)) ∙ ap (ix d S (4 * p .1 + i)) (omega (arith, few, ok .start))
@@ -122,21 +122,21 @@ module _ (d : Pass) (S : ℕ) {len : ℕ} (w : Width len) (t : Bounds) (p : Piec
     after = lineAt sample-step (rule len t) (q i) s
 
     -- no other sample changes
-    away : (j : ℕ) → ((k : ℕ) → Within R k → ¬ (j ≡ at d S p i k)) → getD after j 0 ≡ getD s j 0
+    away : (j : ℕ) → ((k : ℕ) → Within R k → ¬ (j ≡ sampleAt d S p i k)) → getD after j 0 ≡ getD s j 0
     away j h =
         ap (λ l. getD l j 0) line-is
         ∙ put-outside sample-step (span (filtered len t x) (8 - n) (2 * n)) (q i - n * sample-step) s j
         (λ m b e. h (8 - n + m) (stored m (omega (arith, length-span (filtered len t x) (8 - n) (2 * n)))) (e ∙ store-at m))
 
-    within : (k : ℕ) → Within n k → lineIn d S p i after k ≡ filtered len t x k
+    within : (k : ℕ) → Within n k → pieceLine d S p i after k ≡ filtered len t x k
     within k v =
         let z = sizes w in
         let j = k + n - 8 in
         let e : 8 - n + j ≡ k = omega (arith, v .from, few) in
         let b : j < 2 * n = omega (arith, v .from, v .to) in
-        let g : q i - n * sample-step + j * sample-step ≡ at d S p i k = store-at j ∙ ap (at d S p i) e in
+        let g : q i - n * sample-step + j * sample-step ≡ sampleAt d S p i k = store-at j ∙ ap (sampleAt d S p i) e in
         let r : Within R k = record { from = omega (arith, v .from, few); to = omega (arith, v .to, few) } in
-        ap (λ l. getD l (at d S p i k) 0) line-is
+        ap (λ l. getD l (sampleAt d S p i k) 0) line-is
         ∙ ap (λ m. getD (put sample-step (q i - n * sample-step) (span (filtered len t x) (8 - n) (2 * n)) s) m 0) (sym g)
         ∙ put-at sample-step (some-stride d S R p (omega (arith, z .two-written, z .written-read)) (ok .room)) (span (filtered len t x) (8 - n) (2 * n)) (q i - n * sample-step) s j
         (omega (arith, length-span (filtered len t x) (8 - n) (2 * n))) (omega (arith, g, ok .inside i k hi r))
@@ -144,11 +144,11 @@ module _ (d : Pass) (S : ℕ) {len : ℕ} (w : Width len) (t : Bounds) (p : Piec
         ∙ ap (filtered len t x) e
 
     -- the line is the standard's
-    here : (k : ℕ) → Within R k → lineIn d S p i after k ≡ filtered len t x k
+    here : (k : ℕ) → Within R k → pieceLine d S p i after k ≡ filtered len t x k
     here k v =
         by-cases (dec-within n k) (within k)
-        (λ o. ap (λ l. getD l (at d S p i k) 0) line-is
-        ∙ put-outside sample-step (span (filtered len t x) (8 - n) (2 * n)) (q i - n * sample-step) s (at d S p i k)
+        (λ o. ap (λ l. getD l (sampleAt d S p i k) 0) line-is
+        ∙ put-outside sample-step (span (filtered len t x) (8 - n) (2 * n)) (q i - n * sample-step) s (sampleAt d S p i k)
         (λ m b e.
         let c : m < 2 * n = omega (arith, length-span (filtered len t x) (8 - n) (2 * n)) in
         let f = one-place i k i (8 - n + m) hi hi v (stored m c) (e ∙ store-at m) in
@@ -169,22 +169,22 @@ module _ (d : Pass) (S : ℕ) {len : ℕ} (w : Width len) (t : Bounds) (p : Piec
 
     -- after n lines
     record Done (n : ℕ) (l : List ℕ) : Type 0 where
-      pub lines : (i k : ℕ) → i < n → Within R k → lineIn d S p i l k ≡ filtered len t (lineIn d S p i s) k
-      pub others : (j : ℕ) → ((i k : ℕ) → i < n → Within R k → ¬ (j ≡ at d S p i k)) → getD l j 0 ≡ getD s j 0
+      pub lines : (i k : ℕ) → i < n → Within R k → pieceLine d S p i l k ≡ filtered len t (pieceLine d S p i s) k
+      pub others : (j : ℕ) → ((i k : ℕ) → i < n → Within R k → ¬ (j ≡ sampleAt d S p i k)) → getD l j 0 ≡ getD s j 0
 
     next : (n : ℕ) (l : List ℕ) → n < 4 → length l ≡ size → Done n l → Done (suc n) (lineAt sample-step (rule len t) (q n) l)
     next n l h e f =
         record {
           lines = λ i k b v. by-cases (ℕ-discrete i n) (λ z. rw z (here n h l e x same k v))
-              (λ z. away n h l e x same (at d S p i k) (λ m u g. z (one-place i k n m (omega arith) h v u g .0)) ∙ f .lines i k (omega arith) v);
+              (λ z. away n h l e x same (sampleAt d S p i k) (λ m u g. z (one-place i k n m (omega arith) h v u g .0)) ∙ f .lines i k (omega arith) v);
           others = λ j o. away n h l e x same j (λ k v. o n k (omega arith) v) ∙ f .others j (λ i k b v. o i k (omega arith) v);
         }
       where
         x : ℕ → ℕ
-        x = lineIn d S p n s
+        x = pieceLine d S p n s
 
-        same : (k : ℕ) → Within (reads len) k → lineIn d S p n s k ≡ lineIn d S p n l k
-        same k v = sym (f .others (at d S p n k) (λ i m b u g. let z = one-place n k i m h (omega arith) v u g in omega (arith, z .0)))
+        same : (k : ℕ) → Within (reads len) k → pieceLine d S p n s k ≡ pieceLine d S p n l k
+        same k v = sym (f .others (sampleAt d S p n k) (λ i m b u g. let z = one-place n k i m h (omega arith) v u g in omega (arith, z .0)))
 
     lines-done : (n : ℕ) → n ≤ 4 → Done n (upTo line n s)
     lines-done zero h = record { lines = λ i k b v. absurd (omega arith); others = λ j o. refl }

@@ -14,8 +14,8 @@ use Rattle.plane.specs.Plane.{Plane, class, act}
 use Rattle.standard.specs.declared.Bounds.{Bounds}
 use Rattle.line.specs.Width.{Within, reads}
 use Rattle.frames.specs.Calls.{Frame}
-use Rattle.standard_planes.specs.Piece.{at, Standard}
-use Rattle.standard_planes.specs.Frame.{levelIn, Filters, Steps}
+use Rattle.standard_planes.specs.Piece.{sampleAt, Standard}
+use Rattle.standard_planes.specs.Frame.{frameLevel, Filters, Steps}
 use Rattle.standard_planes.proofs.Lines.{dec-within}
 use Rattle.standard_planes.proofs.Pieces.{no-level}
 
@@ -31,12 +31,12 @@ search (suc n) Q dec =
 
 module _ {d : Pass} {S len : ℕ} {b : Bounds} {p : Piece} {s t r : List ℕ} (T : Standard d S len b p s t) (R : Standard d S len b p s r) where
   abbrev Place : ℕ → ℕ → ℕ → Type 0
-  Place j i k = Within (reads len) k × (j ≡ at d S p i k)
+  Place j i k = Within (reads len) k × (j ≡ sampleAt d S p i k)
 
   place : (j i k : ℕ) → Place j i k ⊎ (¬ Place j i k)
   place j i k =
       by-cases (dec-within (reads len) k)
-      (λ w. by-cases (ℕ-discrete j (at d S p i k)) (λ e. inl (w, e)) (λ n. inr (λ x. n (x .1)))) (λ n. inr (λ x. n (x .0)))
+      (λ w. by-cases (ℕ-discrete j (sampleAt d S p i k)) (λ e. inl (w, e)) (λ n. inr (λ x. n (x .1)))) (λ n. inr (λ x. n (x .0)))
 
   -- at an index of the piece, and at another
   same : (j : ℕ) → getD t j 0 ≡ getD r j 0
@@ -58,12 +58,12 @@ module _ {sharp : ℕ} {f : Frame} {n : ℕ} {P : Plane} {d : Pass} {p : Piece} 
   filters-one : {t r : List ℕ} → Filters sharp f n P d p s t → Filters sharp f n P d p s r → t ≡ r
   filters-one T R =
       ⊎-elim
-      (λ x. by-cases (ℕ-discrete (levelIn f n d p) 0) (λ z. T .no-level z ∙ sym (R .no-level z)) (λ z. one-list (T .lines (x .0) (x .1) z) (R .lines (x .0) (x .1) z)))
+      (λ x. by-cases (ℕ-discrete (frameLevel f n d p) 0) (λ z. T .no-level z ∙ sym (R .no-level z)) (λ z. one-list (T .lines (x .0) (x .1) z) (R .lines (x .0) (x .1) z)))
       (λ e. T .no-piece e ∙ sym (R .no-piece e)) (area (class P d p))
 
   filters-long : {t : List ℕ} → Filters sharp f n P d p s t → length t ≡ length s
   filters-long T =
-      ⊎-elim (λ x. by-cases (ℕ-discrete (levelIn f n d p) 0) (λ z. ap length (T .no-level z)) (λ z. T .lines (x .0) (x .1) z .long))
+      ⊎-elim (λ x. by-cases (ℕ-discrete (frameLevel f n d p) 0) (λ z. ap length (T .no-level z)) (λ z. T .lines (x .0) (x .1) z .long))
       (λ e. ap length (T .no-piece e)) (area (class P d p))
 
 -- ---- a plane whose units are filtered so

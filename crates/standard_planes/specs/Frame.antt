@@ -1,6 +1,6 @@
 -- The pieces of a frame as the standard filters them, one after another. P is plane n of the frame f, `part` its list among the three.
 --   Sharp sharp f      the calls are given the limit table that `limits` leaves for a sharpness
---   levelIn f n d p    the level used at a piece
+--   frameLevel f n d p  the level used at a piece
 --   Filters            what the standard does at one unit: nothing with no edge piece or at level 0, else 7.14.6.1's four lines
 --   Steps              what it does at the units of a list, one after another
 --   ByStandard         demand 3's samples are the standard's
@@ -19,22 +19,22 @@ use Rattle.checks.specs.Call.{strideOf, Filtered}
 use Rattle.apply.specs.Apply.{planeAt}
 use Rattle.order.specs.Demand3.{Order}
 use Rattle.frames.specs.Calls.{Frame, lentOf, after, sbRows, BoundariesKept}
-use Rattle.standard_planes.specs.Piece.{limitsIn, levelAt, lenAt, Standard}
+use Rattle.standard_planes.specs.Piece.{limitsIn, pieceLevel, widthAt, Standard}
 
 pub record Sharp (sharp : ℕ) (f : Frame) : Type 0 where
   pub accepted : limitsOf sharp .number ≡ 0
   pub given : f .limits ≡ limitsIn (limitsOf sharp)
 
-abbrev pub levelIn : Frame → ℕ → Pass → Piece → ℕ
-levelIn f = levelAt (f .head) (f .limits) (lentOf f (record { luma = []; u = []; v = [] }))
+abbrev pub frameLevel : Frame → ℕ → Pass → Piece → ℕ
+frameLevel f = pieceLevel (f .head) (f .limits) (lentOf f (record { luma = []; u = []; v = [] }))
 
 module _ (sharp : ℕ) (f : Frame) (n : ℕ) (P : Plane) (d : Pass) where
   -- s before, t after
   pub record Filters (p : Piece) (s t : List ℕ) : Type 0 where
     pub no-piece : class P d p ≡ none → t ≡ s
-    pub no-level : levelIn f n d p ≡ 0 → t ≡ s
-    pub lines : (cls : ℕ) → class P d p ≡ some cls → ¬ (levelIn f n d p ≡ 0)
-        → Standard d (strideOf (f .head) n) (lenAt n cls) (bounds (f .head .depth) sharp (levelIn f n d p)) p s t
+    pub no-level : frameLevel f n d p ≡ 0 → t ≡ s
+    pub lines : (cls : ℕ) → class P d p ≡ some cls → ¬ (frameLevel f n d p ≡ 0)
+        → Standard d (strideOf (f .head) n) (widthAt n cls) (bounds (f .head .depth) sharp (frameLevel f n d p)) p s t
 
   abbrev pub Steps : List Piece → List ℕ → List ℕ → Type 0
   Steps [] s t = t ≡ s

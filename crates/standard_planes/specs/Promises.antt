@@ -23,25 +23,26 @@ use Rattle.block.specs.declared.Block.{Block}
 use Rattle.block.specs.Block as block
 use Rattle.record.specs.Record.{intraOf, interOf, RecordAnswer}
 use Rattle.record.specs.Recorded.{Seen}
-use Rattle.standard_planes.specs.Piece.{limitsIn, levelAt, lenAt, There, Standard}
+use Rattle.standard_planes.specs.Piece.{limitsIn, pieceLevel, widthAt, There, Standard}
 use Rattle.standard_planes.specs.Frame.{Sharp, ByStandard}
 use Rattle.standard_planes.specs.Level.{Segment, Referred, Level}
 
 pub record Promises : Type 0 where
   -- at level 0 a piece changes nothing
   pub no-level : (c : Call) (l : Limits) (m : Lent) (n : ℕ) (d : Pass) (p : Piece) (s : List ℕ)
-      → levelAt c l m n d p ≡ 0 → act (planeAt c l m n) d p s ≡ s
+      → pieceLevel c l m n d p ≡ 0 → act (planeAt c l m n) d p s ≡ s
   -- at another it is the standard's, with the limit table that `limits` leaves for a sharpness
   pub piece : (sharp : ℕ) (a : LimitAnswer) → a ≡ limitsOf sharp → a .number ≡ 0 → (c : Call) (m : Lent) (n : ℕ) (d : Pass) (p : Piece) (cls : ℕ) (s : List ℕ)
       → class (planeAt c (limitsIn a) m n) d p ≡ some cls
-      → ¬ (levelAt c (limitsIn a) m n d p ≡ 0) → levelAt c (limitsIn a) m n d p ≤ 63
-      → There d (strideOf c n) (reads (lenAt n cls)) p (length s)
-      → Standard d (strideOf c n) (lenAt n cls) (bounds (c .depth) sharp (levelAt c (limitsIn a) m n d p)) p s (act (planeAt c (limitsIn a) m n) d p s)
+      → ¬ (pieceLevel c (limitsIn a) m n d p ≡ 0) → pieceLevel c (limitsIn a) m n d p ≤ 63
+      → There d (strideOf c n) (reads (widthAt n cls)) p (length s)
+      → Standard d (strideOf c n) (widthAt n cls) (bounds (c .depth) sharp (pieceLevel c (limitsIn a) m n d p)) p s (act (planeAt c (limitsIn a) m n) d p s)
   -- so is every edge piece of an accepted call, in any list as long as its plane's
   pub call : (sharp : ℕ) (a : LimitAnswer) → a ≡ limitsOf sharp → a .number ≡ 0 → (c : Call) (m : Lent) (n : ℕ) → number c m ≡ 0 → Filtered c n
       → (p : Piece) (cls : ℕ) (s : List ℕ) → InRow (planeAt c (limitsIn a) m n) (callPass c) (c .row) p → class (planeAt c (limitsIn a) m n) (callPass c) p ≡ some cls
-      → length s ≡ length (samples m n) → ¬ (levelAt c (limitsIn a) m n (callPass c) p ≡ 0)
-      → Standard (callPass c) (strideOf c n) (lenAt n cls) (bounds (c .depth) sharp (levelAt c (limitsIn a) m n (callPass c) p)) p s (act (planeAt c (limitsIn a) m n) (callPass c) p s)
+      → length s ≡ length (samples m n) → ¬ (pieceLevel c (limitsIn a) m n (callPass c) p ≡ 0)
+      → Standard (callPass c) (strideOf c n) (widthAt n cls) (bounds (c .depth) sharp (pieceLevel c (limitsIn a) m n (callPass c) p)) p s
+      (act (planeAt c (limitsIn a) m n) (callPass c) p s)
   -- and so are the samples that all calls of a frame leave, plane by plane
   pub luma-frame : (sharp : ℕ) (f : Frame) → Sharp sharp f → (s : Three (List ℕ)) → Accepted f s → ByStandard sharp f s 0 (planes f .luma) (λ t. t .luma)
   pub u-frame : (sharp : ℕ) (f : Frame) → Sharp sharp f → (s : Three (List ℕ)) → Accepted f s → ByStandard sharp f s 1 (planes f .u) (λ t. t .u)

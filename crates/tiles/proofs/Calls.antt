@@ -4,10 +4,10 @@ use Prim.Native.Nat.{ℕ}
 use Rattle.block.specs.Block.{Lent}
 use Rattle.block.specs.Tests.{number}
 use Rattle.record.specs.Record.{lumaLevels, chromaLevels, lumaMasks, chromaMasks, lumaAbove, lumaLeft, chromaAbove, chromaLeft}
-use Rattle.drawn.specs.Calls.{atBlock, back, Call, Records}
+use Rattle.drawn.specs.Calls.{atBlock, back, RecordCall, Records}
 
 -- of what it is lent
-abbrev left : ℕ → Call → Lent → Lent
+abbrev left : ℕ → RecordCall → Lent → Lent
 left level-stride q m =
     record {
       levels = chromaLevels (q .block) level-stride (q .values) (lumaLevels (q .block) level-stride (q .values) (m .levels));
@@ -18,10 +18,10 @@ left level-stride q m =
       left-uv = chromaLeft (q .block) (m .left-uv);
     }
 
-abbrev pub next : ℕ → Call → Lent → Lent
+abbrev pub next : ℕ → RecordCall → Lent → Lent
 next level-stride q m = back (q .block) m (left level-stride q (atBlock (q .block) m))
 
-pub records : (level-stride : ℕ) (q : Call) (m : Lent) → number (q .block) level-stride (atBlock (q .block) m) ≡ 0 → Records level-stride q m (next level-stride q m)
+pub records : (level-stride : ℕ) (q : RecordCall) (m : Lent) → number (q .block) level-stride (atBlock (q .block) m) ≡ 0 → Records level-stride q m (next level-stride q m)
 records level-stride q m e =
     record {
       left-behind = left level-stride q (atBlock (q .block) m);

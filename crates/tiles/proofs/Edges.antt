@@ -13,8 +13,8 @@ use Rattle.standard.specs.Edge.{Frame}
 use Rattle.plane.specs.Line.{Pass, Piece, other}
 use Rattle.edges.specs.Edges.{Grid, unitsOf, classes, edgeBit, edge}
 use Rattle.covering.specs.Front.{Tile}
-use Rattle.covering.specs.Standard.{sideAt, appliesAt, edgeIn}
-use Rattle.drawn.specs.Run.{classIn, edgeClass, drawnClass}
+use Rattle.covering.specs.Standard.{sideAt, transformClass, edgeClass, appliesAt, filteredEdge}
+use Rattle.drawn.specs.Run.{drawnClass}
 use Rattle.drawn.proofs.Frames.{eqb-turn, all-edges}
 use Rattle.tiles.specs.Tiles.{turned, In, Fix, InTiles}
 use Rattle.tiles.proofs.Joins.{start-applies, tiles-bit}
@@ -26,7 +26,7 @@ module _ (D : Frame) (plane : ℕ) (G : Grid) (start : ℕ) (ts : List Tile) (l 
     on = appliesAt D plane d (p .1) (p .0)
 
     abbrev own : ℕ
-    own = classIn D plane d (p .0) (p .1)
+    own = transformClass D plane d (p .0) (p .1)
 
     abbrev T : Tile
     T = I .parted .every d p px py .0
@@ -50,7 +50,8 @@ module _ (D : Frame) (plane : ℕ) (G : Grid) (start : ℕ) (ts : List Tile) (l 
     as-fixed : p .0 ≡ turned d T .x0 → 0 < p .0 → (c : ℕ) → c < classes G → isSet o (edgeBit G d p c) ≡ (on && eqb (edgeClass D plane d p) c)
     as-fixed e past c hc =
         let a = start-applies D plane G start d p ts m n (I .recorded) T (I .parted .every d p px py .1) inside e in
-        once-fixed G d p px py l n o (I .corrected) (I .starts .frame) (classIn D plane d (p .0 - 1) (p .1)) (I .starts .starts d p px py T (I .parted .every d p px py .1) inside e past)
+        once-fixed G d p px py l n o (I .corrected) (I .starts .frame) (transformClass D plane d (p .0 - 1) (p .1))
+        (I .starts .starts d p px py T (I .parted .every d p px py .1) inside e past)
         own (I .tallies .low (sideAt D plane d (p .1) (p .0))) (λ k hk. drawn k hk ∙ rw (a, eq-eqb (p .0) (turned d T .x0) e) refl) c hc
         ∙ eqb-turn c (edgeClass D plane d p) ∙ sym (ap (λ (b : Bool). b && eqb (edgeClass D plane d p) c) a)
 
@@ -65,7 +66,7 @@ module _ (D : Frame) (plane : ℕ) (G : Grid) (start : ℕ) (ts : List Tile) (l 
         first z =
             let f : p .0 ≡ p .0 - 1 = omega arith in
             let g : own ≡ min own own = omega arith in
-            g ∙ ap (λ (x : ℕ). min own (classIn D plane d x (p .1))) f
+            g ∙ ap (λ (x : ℕ). min own (transformClass D plane d x (p .1))) f
 
-  pub edges : (d : Pass) (p : Piece) → edge G o d p ≡ edgeIn D plane d (p .1) (p .0)
+  pub edges : (d : Pass) (p : Piece) → edge G o d p ≡ filteredEdge D plane d (p .1) (p .0)
   edges = all-edges D plane G (I .tallies) o bits

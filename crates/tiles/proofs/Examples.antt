@@ -24,11 +24,12 @@ use Rattle.correct.specs.Start.{across, first}
 use Rattle.agree.specs.Legal.{Legal, Shows}
 use Rattle.agree.proofs.Theorems as agree
 use Rattle.covering.specs.Front.{Tile, Tiled}
+use Rattle.covering.specs.Standard.{transformClass}
 use Rattle.drawn.specs.Calls.{atBlock, coded, lumaSeen, lumaState, chromaSeen, chromaState}
 use Rattle.drawn.specs.Run as run
-use Rattle.drawn.specs.Run.{Run, InTile, classIn}
+use Rattle.drawn.specs.Run.{Run, InTile}
 use Rattle.drawn.proofs.Theorems as drawn
-use Rattle.tiles.specs.Tiles.{turned, In, done, tile, Fix, Fixes, keptAt, Once, Never, AtStarts, InTiles}
+use Rattle.tiles.specs.Tiles.{turned, In, done, tile, Fix, Fixes, keptAt, FixedOnce, Never, AtStarts, InTiles}
 use Rattle.tiles.specs.Example.{decoded, call, fresh, clear, fixOf, tilesOf, Example}
 use Rattle.tiles.proofs.Recorded as calls
 use Rattle.tiles.proofs.Recorded.{between, after, masks}
@@ -39,7 +40,7 @@ use Rattle.tiles.proofs.Edges.{edges}
 differ : columns ≡ rows → ⊥
 differ e = let z = ap passNo e in omega arith
 
-module _ (a b h : ℕ) (past : 0 < a) (blockWidth : a < b) where
+module _ (a b h : ℕ) (past : 0 < a) (wide : a < b) where
   abbrev T : Tile
   T = record { x0 = 0; x1 = a; y0 = 0; y1 = h }
 
@@ -76,9 +77,9 @@ module _ (a b h : ℕ) (past : 0 < a) (blockWidth : a < b) where
     )
 
     starts : (p : Piece) (v : ℕ) → (p .0 ≡ a → p .1 < h → Fixes k luma columns p × (keptAt k luma p ≡ v)) → (Q : Tile) → List·Memᴰ Q (tilesOf a b h) → In Q columns p
-        → p .0 ≡ Q .x0 → 0 < p .0 → Once luma columns p v (k ∷ [])
+        → p .0 ≡ Q .x0 → 0 < p .0 → FixedOnce luma columns p v (k ∷ [])
     starts p v f Q m i e o =
-        either Q m (λ Q. In Q columns p → p .0 ≡ Q .x0 → Once luma columns p v (k ∷ [])) (λ _ z. absurd (omega arith))
+        either Q m (λ Q. In Q columns p → p .0 ≡ Q .x0 → FixedOnce luma columns p v (k ∷ [])) (λ _ z. absurd (omega arith))
         (λ j z. let g = f z (j .along .1) in inl (g .0, g .1, tt)) i e
 
   -- and the row pass has no start but the frame's
@@ -213,17 +214,17 @@ luma-second =
 luma-starts : AtStarts decoded 0 (lumaGrid 20 2) (tilesOf 16 20 2) (fixOf between ∷ [])
 luma-starts = record { frame = (refl, tt); starts = here; rest = λ d p _ _ Q m i n. never 16 20 2 (omega arith) (omega arith) (fixOf between) true refl refl d p Q m i n }
   where
-    kept : (p : Piece) → p .0 ≡ 16 → p .1 < 2 → Fixes (fixOf between) true columns p × (keptAt (fixOf between) true p ≡ classIn decoded 0 columns (p .0 - 1) (p .1))
+    kept : (p : Piece) → p .0 ≡ 16 → p .1 < 2 → Fixes (fixOf between) true columns p × (keptAt (fixOf between) true p ≡ transformClass decoded 0 columns (p .0 - 1) (p .1))
     kept p e h = (
       record { pass = refl; past = omega arith; unit = record { plane = inl refl; at = e; from = omega arith; to = h } },
       (let z : p .1 - 0 ≡ p .1 = omega arith in ap (λ (j : ℕ). getD (between .left) j 0) z)
           ∙ drawn.promises .leaves decoded 0 (lumaGrid 20 2) columns (record { x0 = 0; x1 = 16; y0 = 0; y1 = 2 }) (lumaSeen (call 0 1 0) clear ∷ []) (lumaState clear) (lumaState between) 2
           (luma-first columns) (omega arith) (p .1) (omega arith) h
-          ∙ ap (λ (x : ℕ). classIn decoded 0 columns (x - 1) (p .1)) (sym e),
+          ∙ ap (λ (x : ℕ). transformClass decoded 0 columns (x - 1) (p .1)) (sym e),
     )
 
     here : (d : Pass) (p : Piece) → p .0 < unitsOf (lumaGrid 20 2) d → p .1 < unitsOf (lumaGrid 20 2) (other d) → (Q : Tile) → List·Memᴰ Q (tilesOf 16 20 2) → In Q d p
-        → p .0 ≡ turned d Q .x0 → 0 < p .0 → Once true d p (classIn decoded 0 d (p .0 - 1) (p .1)) (fixOf between ∷ [])
+        → p .0 ≡ turned d Q .x0 → 0 < p .0 → FixedOnce true d p (transformClass decoded 0 d (p .0 - 1) (p .1)) (fixOf between ∷ [])
     here columns p px py Q m i e o = starts 16 20 2 (omega arith) (omega arith) (fixOf between) true refl refl p _ (kept p) Q m i e o
     here rows p px py Q m i e o = absurd (no-start 16 20 2 (omega arith) (omega arith) p Q m e o)
 
@@ -284,17 +285,17 @@ chroma-second =
 chroma-starts : AtStarts decoded 1 (chromaGrid 1 1 20 2) (tilesOf 8 10 1) (fixOf between ∷ [])
 chroma-starts = record { frame = (refl, tt); starts = here; rest = λ d p _ _ Q m i n. never 8 10 1 (omega arith) (omega arith) (fixOf between) false refl refl d p Q m i n }
   where
-    kept : (p : Piece) → p .0 ≡ 8 → p .1 < 1 → Fixes (fixOf between) false columns p × (keptAt (fixOf between) false p ≡ classIn decoded 1 columns (p .0 - 1) (p .1))
+    kept : (p : Piece) → p .0 ≡ 8 → p .1 < 1 → Fixes (fixOf between) false columns p × (keptAt (fixOf between) false p ≡ transformClass decoded 1 columns (p .0 - 1) (p .1))
     kept p e h = (
       record { pass = refl; past = omega arith; unit = record { plane = inr (λ z. omega arith); at = e; from = omega arith; to = h } },
       (let z : p .1 - 0 ≡ p .1 = omega arith in ap (λ (j : ℕ). getD (between .left-uv) j 0) z)
           ∙ drawn.promises .leaves decoded 1 (chromaGrid 1 1 20 2) columns (record { x0 = 0; x1 = 8; y0 = 0; y1 = 1 }) (chromaSeen (call 0 1 0) clear ∷ []) (chromaState clear) (chromaState between) 1
           (chroma-first columns) (omega arith) (p .1) (omega arith) h
-          ∙ ap (λ (x : ℕ). classIn decoded 1 columns (x - 1) (p .1)) (sym e),
+          ∙ ap (λ (x : ℕ). transformClass decoded 1 columns (x - 1) (p .1)) (sym e),
     )
 
     here : (d : Pass) (p : Piece) → p .0 < unitsOf (chromaGrid 1 1 20 2) d → p .1 < unitsOf (chromaGrid 1 1 20 2) (other d) → (Q : Tile) → List·Memᴰ Q (tilesOf 8 10 1) → In Q d p
-        → p .0 ≡ turned d Q .x0 → 0 < p .0 → Once false d p (classIn decoded 1 d (p .0 - 1) (p .1)) (fixOf between ∷ [])
+        → p .0 ≡ turned d Q .x0 → 0 < p .0 → FixedOnce false d p (transformClass decoded 1 d (p .0 - 1) (p .1)) (fixOf between ∷ [])
     here columns p px py Q m i e o = starts 8 10 1 (omega arith) (omega arith) (fixOf between) false refl refl p _ (kept p) Q m i e o
     here rows p px py Q m i e o = absurd (no-start 8 10 1 (omega arith) (omega arith) p Q m e o)
 

@@ -25,7 +25,7 @@ use Rattle.correct.proofs.Corrected.{across-in, end-in, all-passed}
 use Rattle.correct.proofs.AnswerLaws as told
 use Rattle.drawn.proofs.Bits.{passes-apart}
 use Rattle.drawn.proofs.Corrects.{new-class}
-use Rattle.tiles.specs.Tiles.{Fix, Corrected, done, fix, Fixes, keptAt, Never, Once}
+use Rattle.tiles.specs.Tiles.{Fix, Corrected, done, fix, Fixes, keptAt, Never, FixedOnce}
 
 -- ---- one correction
 
@@ -100,7 +100,7 @@ module _ (G : Grid) (d : Pass) (p : Piece) (px : p .0 < unitsOf G d) (py : p .1 
   never-stays l m o (done _) s n c hc = refl
   never-stays (k ∷ l) m o (fix _ _ _ x _ A r) s n c hc = never-stays l x o r (s .1) (n .1) c hc ∙ one-stays k m x A (s .0) (n .0) c hc
 
-  pub once-fixed : (l : List Fix) (m o : List ℕ) → Corrected l m o → All Ours l → (v : ℕ) → Once (G .luma) d p v l
+  pub once-fixed : (l : List Fix) (m o : List ℕ) → Corrected l m o → All Ours l → (v : ℕ) → FixedOnce (G .luma) d p v l
       → (own : ℕ) → own < classes G → ((c : ℕ) → c < classes G → isSet m (edgeBit G d p c) ≡ eqb own c)
       → (c : ℕ) → c < classes G → isSet o (edgeBit G d p c) ≡ eqb c (min own v)
   once-fixed l m o (done _) s v w own h one c hc = absurd w

@@ -20,7 +20,7 @@ use Rattle.block.specs.Block.{Lent, lent}
 use Rattle.record.specs.Record.{intraOf}
 use Rattle.correct.specs.Answer.{columnOf}
 use Rattle.covering.specs.Front.{Tile}
-use Rattle.drawn.specs.Calls.{Call, Records}
+use Rattle.drawn.specs.Calls.{RecordCall, Records}
 use Rattle.tiles.specs.Tiles.{Fix, InTiles}
 
 abbrev pub decoded : Frame
@@ -36,7 +36,7 @@ decoded =
       TxSizes = λ plane row col. cond (eqb plane 0) (cond (ltb col 16) 1 4) (cond (ltb col 8) 0 3);
     }
 
-abbrev pub call : ℕ → ℕ → ℕ → Call
+abbrev pub call : ℕ → ℕ → ℕ → RecordCall
 call x t u = record { block = intraOf 80 8 420 x 0 12 t 1 u; tx-masks = []; values = replicate 64 20 }
 
 abbrev pub fresh : Lent → Lent

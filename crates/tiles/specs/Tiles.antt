@@ -2,15 +2,15 @@
 -- A `Tile` counts x0 to x1 to the right and y0 to y1 down.
 --   turned d T                   the tile as the pass d sees it
 --   In T d p                     the unit p of the pass lies in it
---   Apart T R, AllApart ts       no unit lies in both; of each two tiles of a list
+--   TilesApart T R, AllApart ts  no unit lies in both; of each two tiles of a list
 --   Parted G ts                  the tiles ts part the frame: each unit lies in one of them, and none in two
---   Recorded D plane G start ts m n     the blocks of the tiles ts, one tile after another, lead from the masks m to n
+--   TilesRecorded D plane G start ts m n  the blocks of the tiles ts, one tile after another, lead from the masks m to n
 --   Fix                          a correction: a tile's start, and the contexts kept there
 --   Corrected l m n              the calls for the corrections l answer 0 and lead from the masks m to n
 --   Fixes k luma d p             k corrects the unit p of the pass d, in luma or in chroma
 --   keptAt k luma p              the class that was kept of the unit before it
 --   Never luma d p l             no correction of l does
---   Once luma d p v l            one of l does, with the class v kept, and no other
+--   FixedOnce luma d p v l       one of l does, with the class v kept, and no other
 --   AtStarts D plane G ts l      the corrections l are those of a frame of tiles: each unit at a tile's start but unit 0 is corrected once, with the class of
 --                                the unit before it, and no other unit is
 --   InTiles D plane G start ts l m n o     the masks o of a plane made so: from clear ones, m, over the tiles' blocks, n, and the corrections
@@ -30,7 +30,8 @@ use Rattle.correct.specs.Start.{gridAt, begin, first}
 use Rattle.correct.specs.Answer.{CorrectAnswer}
 use Rattle.correct.specs.Promises.{CorrectedUnit}
 use Rattle.covering.specs.Front.{Tile}
-use Rattle.drawn.specs.Run.{State, Seen, Tallies, InTile, classIn}
+use Rattle.covering.specs.Standard.{transformClass}
+use Rattle.drawn.specs.Run.{State, SeenBlock, Tallies, InTile}
 
 -- ---- the tiles
 
@@ -42,21 +43,21 @@ pub record In (T : Tile) (d : Pass) (p : Piece) : Type 0 where
   pub across : (turned d T .x0 ≤ p .0) × (p .0 < turned d T .x1)
   pub along : (turned d T .y0 ≤ p .1) × (p .1 < turned d T .y1)
 
-abbrev pub Apart : Tile → Tile → Type 0
-Apart T R = (d : Pass) (p : Piece) → In T d p → In R d p → ⊥
+abbrev pub TilesApart : Tile → Tile → Type 0
+TilesApart T R = (d : Pass) (p : Piece) → In T d p → In R d p → ⊥
 
 abbrev pub AllApart : List Tile → Type 0
 AllApart [] = Unit {0}
-AllApart (T ∷ ts) = All (Apart T) ts × AllApart ts
+AllApart (T ∷ ts) = All (TilesApart T) ts × AllApart ts
 
 pub record Parted (G : Grid) (ts : List Tile) : Type 0 where
   pub apart : AllApart ts
   pub every : (d : Pass) (p : Piece) → p .0 < unitsOf G d → p .1 < unitsOf G (other d) → (T : Tile) × List·Memᴰ T ts × In T d p
 
-pub data Recorded (D : Frame) (plane : ℕ) (G : Grid) (start : ℕ) : List Tile → List ℕ → List ℕ → Type 0 where
-  done : (m : List ℕ) → Recorded D plane G start [] m m
-  tile : (T : Tile) (ts : List Tile) (l : List Seen) (s t : State) (n : List ℕ) → ((d : Pass) → InTile D plane G d (turned d T) l s t start)
-      → Recorded D plane G start ts (t .masks) n → Recorded D plane G start (T ∷ ts) (s .masks) n
+pub data TilesRecorded (D : Frame) (plane : ℕ) (G : Grid) (start : ℕ) : List Tile → List ℕ → List ℕ → Type 0 where
+  done : (m : List ℕ) → TilesRecorded D plane G start [] m m
+  tile : (T : Tile) (ts : List Tile) (l : List SeenBlock) (s t : State) (n : List ℕ) → ((d : Pass) → InTile D plane G d (turned d T) l s t start)
+      → TilesRecorded D plane G start ts (t .masks) n → TilesRecorded D plane G start (T ∷ ts) (s .masks) n
 
 -- ---- their starts
 
@@ -80,14 +81,14 @@ keptAt k luma p = getD (cond luma (k .context) (k .context-uv)) (p .1 - first (k
 abbrev pub Never : Bool → Pass → Piece → List Fix → Type 0
 Never luma d p l = All (λ k. ¬ (Fixes k luma d p)) l
 
-abbrev pub Once : Bool → Pass → Piece → ℕ → List Fix → Type 0
-Once luma d p v [] = ⊥
-Once luma d p v (k ∷ l) = (Fixes k luma d p × (keptAt k luma p ≡ v) × Never luma d p l) ⊎ ((¬ (Fixes k luma d p)) × Once luma d p v l)
+abbrev pub FixedOnce : Bool → Pass → Piece → ℕ → List Fix → Type 0
+FixedOnce luma d p v [] = ⊥
+FixedOnce luma d p v (k ∷ l) = (Fixes k luma d p × (keptAt k luma p ≡ v) × Never luma d p l) ⊎ ((¬ (Fixes k luma d p)) × FixedOnce luma d p v l)
 
 pub record AtStarts (D : Frame) (plane : ℕ) (G : Grid) (ts : List Tile) (l : List Fix) : Type 0 where
   pub frame : All (λ k. gridAt (k .start) (G .luma) ≡ G) l
   pub starts : (d : Pass) (p : Piece) → p .0 < unitsOf G d → p .1 < unitsOf G (other d) → (T : Tile) → List·Memᴰ T ts → In T d p
-      → p .0 ≡ turned d T .x0 → 0 < p .0 → Once (G .luma) d p (classIn D plane d (p .0 - 1) (p .1)) l
+      → p .0 ≡ turned d T .x0 → 0 < p .0 → FixedOnce (G .luma) d p (transformClass D plane d (p .0 - 1) (p .1)) l
   pub rest : (d : Pass) (p : Piece) → p .0 < unitsOf G d → p .1 < unitsOf G (other d) → (T : Tile) → List·Memᴰ T ts → In T d p
       → ¬ ((p .0 ≡ turned d T .x0) × (0 < p .0)) → Never (G .luma) d p l
 
@@ -95,6 +96,6 @@ pub record InTiles (D : Frame) (plane : ℕ) (G : Grid) (start : ℕ) (ts : List
   pub tallies : Tallies D plane G
   pub parted : Parted G ts
   pub clear : (d : Pass) (p : Piece) (c : ℕ) → p .0 < unitsOf G d → p .1 < unitsOf G (other d) → c < classes G → isSet m (edgeBit G d p c) ≡ false
-  pub recorded : Recorded D plane G start ts m n
+  pub recorded : TilesRecorded D plane G start ts m n
   pub corrected : Corrected l n o
   pub starts : AtStarts D plane G ts l

@@ -1,5 +1,6 @@
-// Demand 3, run with the public calls on frames of 128 by 128 samples, 4:2:0, 8 bits, superblocks of 64: a frame that meets its hypotheses,
-// in every order that it allows; a frame that breaks the hypothesis that no call checks; and a boundary that two workers filter.
+// A program: the calls of a frame in several orders, and what goes wrong where they may not be changed. Demand 3 is run with the public
+// calls on frames of 128 by 128 samples, 4:2:0, 8 bits, superblocks of 64: a frame that meets its hypotheses, in every order that it
+// allows; a frame that breaks the hypothesis that no call checks; and a boundary that two workers filter.
 mod calls;
 mod counts;
 mod planes;

@@ -1,5 +1,5 @@
-// Document 01, "Units and lent memory": luma units, chroma units and samples, counted apart and converted only here; layouts, the
-// frame, the places of lent memory, block and transform sizes; and the numbers that a call returns. ss is ss_hor or ss_ver.
+// Luma units, chroma units and samples, counted apart; layouts, the frame, lent memory, the geometry of masks, block and transform sizes,
+// the numbers answered. Units are converted only here. ss is ss_hor or ss_ver.
 pub mod frame;
 pub mod layout;
 pub mod masks;

@@ -1,5 +1,5 @@
-// `WithOffset` of the Rust: a view that holds the lent level bytes and a place in them. A function that takes or makes one is proved by a
-// walk of its MIR; those on a slice and numbers do the work.
+// The level bytes and a place in them, held by one struct: `WithOffset` of the Rust; the level at an edge. A function that takes or makes
+// one is proved by a walk of its MIR; those on a slice and numbers do the work.
 ghost use mathlib.Core.Path.{_≡_};
 ghost use Prim.Native.Nat.{_<_, _≤_};
 ghost use lib.ListN.{length};

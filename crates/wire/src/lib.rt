@@ -1,7 +1,38 @@
-// Numbers in records of bytes, low byte first.
+// What the replay programs read and write: records of bytes, lent in part, and their numbers, low byte first.
 ghost use mathlib.Core.Path.{_≡_};
 ghost use Prim.Native.Nat.{_+_, _*_, _<_, _≤_};
 ghost use lib.ListN.{length};
+ghost use Rattle.io.specs.Counts.{Counts};
+use libc::STDIN_FILENO;
+use libc::STDOUT_FILENO;
+
+pub fn read(buf: &mut [u8]) -> bool {
+    io::read_full(STDIN_FILENO, buf) == buf.len()
+}
+
+pub fn write(buf: &[u8]) -> bool {
+    io::write_all(STDOUT_FILENO, buf)
+}
+
+pub fn least(a: usize, b: usize) -> usize
+    ensures { λ r. ⌜ r ≤ a ⌝ }
+    ensures { λ r. ⌜ r ≤ b ⌝ }
+{
+    if a < b { a } else { b }
+}
+
+// How many to lend where n are asked for.
+pub fn bytes(n: usize, of: &[u8]) -> usize
+    ensures { λ r. ⌜ Counts r (now (of .entry)) ⌝ }
+{
+    least(n, of.len())
+}
+
+pub fn words(n: usize, of: &[u16]) -> usize
+    ensures { λ r. ⌜ Counts r (now (of .entry)) ⌝ }
+{
+    least(n, of.len())
+}
 
 pub fn u8_at(b: &[u8], at: usize) -> u32
     requires { ⌜ at < length (now b) ⌝ }

@@ -38,4 +38,11 @@ returns c =
 pub component-spec : {M : Type 1} → statement M
 component-spec =
     tie.close
-    (tie.spec plane-ss-hor-requires plane-ss-ver-requires luma-units-requires luma-units-requires-2 superblock-units-requires stride-of-requires returns)
+    (tie.spec
+    plane-ss-hor-requires
+    plane-ss-ver-requires
+    luma-units-requires
+    luma-units-requires-2
+    superblock-units-requires
+    stride-of-requires
+    returns)

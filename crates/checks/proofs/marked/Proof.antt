@@ -1,7 +1,7 @@
 -- `marked` meets its contract: each test is asked where those before it have failed.
 use mathlib.Core.Path.{refl, sym, _∙_}
 use borrow.Author.Needs.{needs}
-use Rattle.checks.proofs.TestsPassed.{off, on}
+use Rattle.loops.proofs.Bools.{no, yes}
 use Rattle.checks.proofs.marked.Statement.{statement}
 use Rattle.checks.proofs.marked.Tie as tie
 
@@ -9,18 +9,18 @@ inside-requires : tie.Need-inside-requires
 inside-requires c κs = search needs
 
 returns : tie.Need-returns
-returns c = rw (off (c .before .inside .ensures) (c .if1 .taken)) refl
+returns c = rw (no (c .before .inside .ensures) (c .if1 .taken)) refl
 
 found-requires : tie.Need-found-requires
-found-requires c κs = (c .before .before .before .pre .0, on (c .before .inside .ensures) (c .if1 .left), c .before .before .before .pre .1)
+found-requires c κs = (c .before .before .before .pre .0, yes (c .before .inside .ensures) (c .if1 .left), c .before .before .before .pre .1)
 
 returns-2 : tie.Need-returns-2
-returns-2 c = rw (on (c .before .before .before .inside .ensures) (c .before .before .if1 .left), sym (c .before .found .ensures .0) ∙ c .if2 .taken) refl
+returns-2 c = rw (yes (c .before .before .before .inside .ensures) (c .before .before .if1 .left), sym (c .before .found .ensures .0) ∙ c .if2 .taken) refl
 
 returns-3 : tie.Need-returns-3
 returns-3 c =
     rw (
-      on (c .before .before .before .before .inside .ensures) (c .before .before .before .if1 .left),
+      yes (c .before .before .before .before .inside .ensures) (c .before .before .before .if1 .left),
       sym (c .before .before .found .ensures .0)
           ∙ c .before .if2 .left,
       sym (c .before .before .found .ensures .1) ∙ c .if3 .taken,
@@ -29,7 +29,7 @@ returns-3 c =
 returns-4 : tie.Need-returns-4
 returns-4 c =
     rw (
-      on (c .before .before .before .before .inside .ensures) (c .before .before .before .if1 .left),
+      yes (c .before .before .before .before .inside .ensures) (c .before .before .before .if1 .left),
       sym (c .before .before .found .ensures .0)
           ∙ c .before .if2 .left,
       sym (c .before .before .found .ensures .1) ∙ c .if3 .left,

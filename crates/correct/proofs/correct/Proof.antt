@@ -28,7 +28,8 @@ correct-plane-requires-2 c κs =
     let a = c .before .before .before .before .before .before .before .before .before .before .args in
     let t = startOf (a .rowwise) (a .width) (a .height) (a .layout) (a .superblock) (a .row) (a .start) in
     subst (λ n. Ready t false n (length (now (a .context-uv)))) (sym (c .before .before .before .correct-plane .kept .0))
-    (ready-chroma t _ (now (a .context)) (now (a .context-uv)) (sym (c .before .before .before .before .before .before .number .ensures) ∙ c .before .before .before .before .before .if1 .left))
+    (ready-chroma t _ (now (a .context)) (now (a .context-uv))
+    (sym (c .before .before .before .before .before .before .number .ensures) ∙ c .before .before .before .before .before .if1 .left))
 
 same-length : tie.Need-same-length
 same-length c = search needs
@@ -37,8 +38,9 @@ returns-2 : tie.Need-returns-2
 returns-2 c =
     let a = c .before .before .before .before .before .before .before .before .before .before .before .before .before .args in
     let t = startOf (a .rowwise) (a .width) (a .height) (a .layout) (a .superblock) (a .row) (a .start) in
+    let c₈ = c .before .before .before .before .before .before .before .before in
     record {
-      code = sym (c .before .before .before .before .before .before .before .before .if1 .left) ∙ c .before .before .before .before .before .before .before .before .before .number .ensures;
+      code = sym (c₈ .if1 .left) ∙ c₈ .before .number .ensures;
       masks = c .before .before .correct-plane2 .ensures ∙ ap (planeDone t false (now (a .context-uv))) (c .before .before .before .before .before .before .correct-plane .ensures);
     }
 

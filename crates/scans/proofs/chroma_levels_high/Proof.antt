@@ -36,11 +36,20 @@ returns c =
     let b = c .before .before .before .before .before .before .before in
     let a = b .before .args in
     chroma-levels (a .levels .now) (λ i. omega (arith, b .shared-slice-known .given i)) (a .level-stride) (a .w4 .0) (a .h4 .0) (a .ss-hor) (a .ss-ver)
-    (a .sb4 .0) (a .k) _ _ _ _ _ (passOf (a .rowwise)) _ _ (c .before .before .before .pass-no .ensures .0) (c .before .before .before .before .before .before .chroma-units .ensures)
+    (a .sb4 .0) (a .k) _ _ _ _ _ (passOf (a .rowwise)) _ _ (c .before .before .before .pass-no .ensures .0)
+    (c .before .before .before .before .before .before .chroma-units .ensures)
     (c .before .before .before .before .before .chroma-units2 .ensures) (c .before .before .before .before .chroma-unit .ensures)
     (c .before .before .row-levels .ensures) (c .before .byte-high .ensures) (c .byte-high2 .ensures)
 
 pub chroma-levels-high-spec : {M : Type 1} → statement M
 chroma-levels-high-spec =
     tie.close
-    (tie.spec chroma-units-requires chroma-units-requires-2 chroma-unit-requires pass-no-requires row-levels-requires byte-high-requires byte-high-requires-2 returns)
+    (tie.spec
+    chroma-units-requires
+    chroma-units-requires-2
+    chroma-unit-requires
+    pass-no-requires
+    row-levels-requires
+    byte-high-requires
+    byte-high-requires-2
+    returns)

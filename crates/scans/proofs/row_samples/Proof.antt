@@ -52,4 +52,13 @@ returns c =
 pub row-samples-spec : {M : Type 1} → statement M
 row-samples-spec =
     tie.close
-    (tie.spec pass-no-requires mul-over mul-over-2 over-requires mul-or-samples add-or-samples sub-or-samples or-samples-requires returns)
+    (tie.spec
+    pass-no-requires
+    mul-over
+    mul-over-2
+    over-requires
+    mul-or-samples
+    add-or-samples
+    sub-or-samples
+    or-samples-requires
+    returns)

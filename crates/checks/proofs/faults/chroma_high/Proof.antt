@@ -47,4 +47,11 @@ returns c =
 pub chroma-high-spec : {M : Type 1} → statement M
 chroma-high-spec =
     tie.close
-    (tie.spec luma-units-requires luma-units-requires-2 superblock-units-requires ss-hor-requires ss-ver-requires chroma-levels-high-requires returns)
+    (tie.spec
+    luma-units-requires
+    luma-units-requires-2
+    superblock-units-requires
+    ss-hor-requires
+    ss-ver-requires
+    chroma-levels-high-requires
+    returns)

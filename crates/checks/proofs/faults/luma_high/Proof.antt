@@ -32,4 +32,9 @@ returns c =
 pub luma-high-spec : {M : Type 1} → statement M
 luma-high-spec =
     tie.close
-    (tie.spec luma-units-requires luma-units-requires-2 superblock-units-requires luma-levels-high-requires returns)
+    (tie.spec
+    luma-units-requires
+    luma-units-requires-2
+    superblock-units-requires
+    luma-levels-high-requires
+    returns)

@@ -2,7 +2,8 @@
 use mathlib.Core.Path.{sym, _∙_}
 use borrow.Author.Tests.{not-false}
 use borrow.Author.Needs.{needs}
-use Rattle.checks.proofs.TestsPassed.{off, on, samples-fit, proper}
+use Rattle.loops.proofs.Bools.{no, yes}
+use Rattle.checks.proofs.TestsPassed.{samples-fit, proper}
 use Rattle.checks.proofs.Planes.{plane-short, plane-out, plane-read}
 use Rattle.checks.proofs.faults.plane_bad_16.Statement.{statement}
 use Rattle.checks.proofs.faults.plane_bad_16.Tie as tie
@@ -19,7 +20,7 @@ inside-requires c κs = search needs
 returns-2 : tie.Need-returns-2
 returns-2 c =
     plane-out (c .before .before .before .before .before .args .c) (c .before .before .before .before .before .args .plane) _
-    (sym (c .before .before .before .plane-short .ensures) ∙ c .before .before .if1 .left) (off (c .before .inside .ensures) (c .if2 .taken))
+    (sym (c .before .before .before .plane-short .ensures) ∙ c .before .before .if1 .left) (no (c .before .inside .ensures) (c .if2 .taken))
 
 stride-of-requires : tie.Need-stride-of-requires
 stride-of-requires c κs = search needs
@@ -41,7 +42,7 @@ samples-high-requires c κs =
     let plane = c₉ .args .plane in
     let p = c₉ .pre in (
       rw (c .before .before .before .stride-of .ensures, c .before .plane-ss-hor .ensures, c .plane-ss-ver .ensures, c .before .before .superblock-units .ensures)
-          (samples-fit a plane _ (p .0) (on (c₅ .inside .ensures) (c .before .before .before .before .if2 .left))
+          (samples-fit a plane _ (p .0) (yes (c₅ .inside .ensures) (c .before .before .before .before .if2 .left))
           (not-false _ (sym (c₅ .before .before .plane-short .ensures) ∙ c₅ .before .if1 .left))),
       rw (c .before .plane-ss-hor .ensures) (proper a plane .ss-hor-le),
       rw (c .plane-ss-ver .ensures) (proper a plane .ss-ver-le),
@@ -53,11 +54,25 @@ returns-3 c =
     let c₅ = c .before .before .before .before .before in
     let c₆ = c₅ .before in
     let c₁₀ = c₆ .before .before .before .before in
-    plane-read (c₁₀ .args .c) (c₁₀ .args .plane) _ (sym (c₆ .before .before .plane-short .ensures) ∙ c₆ .before .if1 .left) (on (c₆ .inside .ensures) (c₅ .if2 .left))
-    (rw (c .before .before .before .before .stride-of .ensures, c .before .before .plane-ss-hor .ensures, c .before .plane-ss-ver .ensures, c .before .before .before .superblock-units .ensures) at
-    (c .samples-high .ensures))
+    plane-read (c₁₀ .args .c) (c₁₀ .args .plane) _ (sym (c₆ .before .before .plane-short .ensures) ∙ c₆ .before .if1 .left) (yes (c₆ .inside .ensures) (c₅ .if2 .left))
+    (rw (
+      c .before .before .before .before .stride-of .ensures,
+      c .before .before .plane-ss-hor .ensures,
+      c .before .plane-ss-ver .ensures,
+      c .before .before .before .superblock-units .ensures,
+    ) at (c .samples-high .ensures))
 
 pub plane-bad-16-spec : {M : Type 1} → statement M
 plane-bad-16-spec =
     tie.close
-    (tie.spec plane-short-requires returns inside-requires returns-2 stride-of-requires superblock-units-requires plane-ss-hor-requires plane-ss-ver-requires samples-high-requires returns-3)
+    (tie.spec
+    plane-short-requires
+    returns
+    inside-requires
+    returns-2
+    stride-of-requires
+    superblock-units-requires
+    plane-ss-hor-requires
+    plane-ss-ver-requires
+    samples-high-requires
+    returns-3)

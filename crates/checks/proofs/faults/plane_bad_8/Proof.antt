@@ -9,7 +9,9 @@ plane-short-requires : tie.Need-plane-short-requires
 plane-short-requires c κs = search needs
 
 returns : tie.Need-returns
-returns c = plane-bytes (c .before .before .args .c) (c .before .before .args .plane) _ (c .before .before .pre .1) (λ k. omega (arith, c .before .shared-slice-known .given k)) (c .plane-short .ensures)
+returns c =
+    let s = c .before .before in
+    plane-bytes (s .args .c) (s .args .plane) _ (s .pre .1) (λ k. omega (arith, c .before .shared-slice-known .given k)) (c .plane-short .ensures)
 
 pub plane-bad-8-spec : {M : Type 1} → statement M
 plane-bad-8-spec = tie.close (tie.spec plane-short-requires returns)

@@ -15,15 +15,17 @@ plane-ss-ver-requires : tie.Need-plane-ss-ver-requires
 plane-ss-ver-requires c κs = search needs
 
 stored-side-requires-2 : tie.Need-stored-side-requires-2
-stored-side-requires-2 c κs = (c .before .before .before .pre .height .1, rw (c .plane-ss-ver .ensures) (proper (c .before .before .before .args .c) (c .before .before .before .args .plane) .ss-ver-le))
+stored-side-requires-2 c κs =
+    let s = c .before .before .before in
+    (s .pre .height .1, rw (c .plane-ss-ver .ensures) (proper (s .args .c) (s .args .plane) .ss-ver-le))
 
 stride-of-requires : tie.Need-stride-of-requires
 stride-of-requires c κs = search needs
 
 plane-ok-requires : tie.Need-plane-ok-requires
 plane-ok-requires c κs =
-    rw (c .before .stored-side2 .ensures, c .before .before .plane-ss-ver .ensures)
-    (stored-some (c .before .before .before .before .before .args .c) (c .before .before .before .before .before .args .plane) (c .before .before .before .before .before .pre))
+    let s = c .before .before .before .before .before in
+    rw (c .before .stored-side2 .ensures, c .before .before .plane-ss-ver .ensures) (stored-some (s .args .c) (s .args .plane) (s .pre))
 
 returns : tie.Need-returns
 returns c =
@@ -39,4 +41,11 @@ returns c =
 pub plane-short-spec : {M : Type 1} → statement M
 plane-short-spec =
     tie.close
-    (tie.spec plane-ss-hor-requires stored-side-requires plane-ss-ver-requires stored-side-requires-2 stride-of-requires plane-ok-requires returns)
+    (tie.spec
+    plane-ss-hor-requires
+    stored-side-requires
+    plane-ss-ver-requires
+    stored-side-requires-2
+    stride-of-requires
+    plane-ok-requires
+    returns)

@@ -1,7 +1,7 @@
 use borrow.Author.Needs.{needs}
-use Rattle.replay_record.proofs.Counting.{counts}
-use Rattle.replay_record.proofs.words.Statement.{statement}
-use Rattle.replay_record.proofs.words.Tie as tie
+use Rattle.wire.proofs.Counting.{counts}
+use Rattle.wire.proofs.words.Statement.{statement}
+use Rattle.wire.proofs.words.Tie as tie
 
 least-requires : tie.Need-least-requires
 least-requires c κs = search needs

@@ -1,7 +1,7 @@
 use borrow.Author.Needs.{needs}
-use Rattle.replay_apply.proofs.Counting.{counts}
-use Rattle.replay_apply.proofs.memory.bytes.Statement.{statement}
-use Rattle.replay_apply.proofs.memory.bytes.Tie as tie
+use Rattle.wire.proofs.Counting.{counts}
+use Rattle.wire.proofs.bytes.Statement.{statement}
+use Rattle.wire.proofs.bytes.Tie as tie
 
 least-requires : tie.Need-least-requires
 least-requires c κs = search needs
