@@ -36,7 +36,7 @@ pub fn limits(table: &mut Limits, sharpness: u32) -> Result<(), Refusal> {
 /// What a frame header says of levels. Kinds are luma columns, luma rows, U and V, in this order.
 #[derive(Clone, Copy, Debug, Default, PartialEq, Eq)]
 pub struct Header {
-    /// The base level of each kind, 0 to 63; of chroma 0 at 4:0:0.
+    /// The base level of each area, 0 to 63; of chroma 0 at 4:0:0.
     pub base: [u8; 4],
     /// Whether the two tables of deltas below count.
     pub delta_enabled: bool,
@@ -44,17 +44,17 @@ pub struct Header {
     pub ref_delta: [i8; 8],
     /// Deltas by mode, -64 to 63.
     pub mode_delta: [i8; 2],
-    /// Whether each kind has an lf delta of its own; else the first is everyone's.
+    /// Whether each area has an lf delta of its own; else the first is everyone's.
     pub multi: bool,
-    /// Lf deltas by kind, -63 to 63.
+    /// Lf deltas by area, -63 to 63.
     pub lf_delta: [i8; 4],
     /// Whether segments count; else only segment 0 is written.
     pub segmentation: bool,
-    /// Segment deltas, segment after segment, four kinds each, -63 to 63. A stream may hold -64: the caller clips it.
+    /// Segment deltas, segment after segment, four areas each, -63 to 63. A stream may hold -64: the caller clips it.
     pub seg_delta: [i8; 32],
 }
 
-/// Works out the level values of a frame: `values` is segment after segment, in each kind after kind, reference after
+/// Works out the level values of a frame: `values` is segment after segment, in each area after area, reference after
 /// reference, mode after mode. The 64 bytes of a block's segment are what the calls that record take.
 ///
 /// Refused with [`Refusal::Level`]; deltas that are not in use count too.

@@ -1,6 +1,6 @@
 // Columns and rows of one superblock row.
 ghost use mathlib.Core.Bool.{true, false};
-ghost use Rattle.apply.specs.Apply.{callOf, Filters};
+ghost use Rattle.apply.specs.Apply.{callOf, FilterLent};
 
 #[no_mangle]
 pub extern "C" fn deblock_columns_8(
@@ -22,7 +22,7 @@ pub extern "C" fn deblock_columns_8(
     level_v: u32,
     row: u32,
 ) -> u32
-    ensures { λ r. ⌜ Filters (callOf false 8 «luma_stride» «chroma_stride» «level_stride» width height layout superblock «level_u» «level_v» row)
+    ensures { λ r. ⌜ FilterLent (callOf false 8 «luma_stride» «chroma_stride» «level_stride» width height layout superblock «level_u» «level_v» row)
         (now (luma .entry)) (now (u .entry)) (now (v .entry)) (now (levels .entry)) (now (masks .entry)) (now (e .entry)) (now (i .entry)) r
         (now (luma .exit)) (now (u .exit)) (now (v .exit)) ⌝ }
 {
@@ -67,7 +67,7 @@ pub extern "C" fn deblock_rows_8(
     level_v: u32,
     row: u32,
 ) -> u32
-    ensures { λ r. ⌜ Filters (callOf true 8 «luma_stride» «chroma_stride» «level_stride» width height layout superblock «level_u» «level_v» row)
+    ensures { λ r. ⌜ FilterLent (callOf true 8 «luma_stride» «chroma_stride» «level_stride» width height layout superblock «level_u» «level_v» row)
         (now (luma .entry)) (now (u .entry)) (now (v .entry)) (now (levels .entry)) (now (masks .entry)) (now (e .entry)) (now (i .entry)) r
         (now (luma .exit)) (now (u .exit)) (now (v .exit)) ⌝ }
 {
@@ -113,7 +113,7 @@ pub extern "C" fn deblock_columns_16(
     level_v: u32,
     row: u32,
 ) -> u32
-    ensures { λ r. ⌜ Filters (callOf false depth «luma_stride» «chroma_stride» «level_stride» width height layout superblock «level_u» «level_v» row)
+    ensures { λ r. ⌜ FilterLent (callOf false depth «luma_stride» «chroma_stride» «level_stride» width height layout superblock «level_u» «level_v» row)
         (now (luma .entry)) (now (u .entry)) (now (v .entry)) (now (levels .entry)) (now (masks .entry)) (now (e .entry)) (now (i .entry)) r
         (now (luma .exit)) (now (u .exit)) (now (v .exit)) ⌝ }
 {
@@ -160,7 +160,7 @@ pub extern "C" fn deblock_rows_16(
     level_v: u32,
     row: u32,
 ) -> u32
-    ensures { λ r. ⌜ Filters (callOf true depth «luma_stride» «chroma_stride» «level_stride» width height layout superblock «level_u» «level_v» row)
+    ensures { λ r. ⌜ FilterLent (callOf true depth «luma_stride» «chroma_stride» «level_stride» width height layout superblock «level_u» «level_v» row)
         (now (luma .entry)) (now (u .entry)) (now (v .entry)) (now (levels .entry)) (now (masks .entry)) (now (e .entry)) (now (i .entry)) r
         (now (luma .exit)) (now (u .exit)) (now (v .exit)) ⌝ }
 {

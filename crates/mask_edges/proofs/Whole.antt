@@ -21,7 +21,8 @@ use Rattle.decomp.specs.Cells.{Covers}
 use Rattle.decomp.specs.Split.{isSplit, txAt}
 use Rattle.mask_edges.specs.declared.edge.BlockPass.{BlockPass}
 use Rattle.mask_edges.specs.Recording.{Room, Sweep, classAt, edges}
-use Rattle.mask_edges.specs.Folds.{blockEdge, stepEdges, walk, lineEdges, stores, gridPass, cellPass, gridMasks, cellMasks, oneMasks, interMasks, lumaMasks, lastRow, lastColumn, aboveOf, leftOf, wholeBy}
+use Rattle.mask_edges.specs.Folds.{blockEdge, stepEdges, walk, lineEdges, stores, gridPass, cellPass, gridMasks, cellMasks}
+use Rattle.mask_edges.specs.Folds.{oneMasks, interMasks, lumaMasks, lastRow, lastColumn, aboveOf, leftOf, wholeBy}
 use Rattle.mask_edges.proofs.CellTables.{luma-low, tables-columns, tables-rows}
 use Rattle.mask_edges.proofs.Theorems.{bitsOf, B, I, one-recorded, inter-recorded}
 

@@ -17,7 +17,7 @@ use units::sizes::luma_class;
 use units::sizes::luma_tx_high;
 use units::sizes::luma_tx_wide;
 ghost use mathlib.Core.Path.{_≡_};
-ghost use mathlib.Core.Bool.{true, false};
+ghost use mathlib.Core.Bool.{true};
 ghost use Prim.Native.Nat.{ℕ, _<_, _≤_};
 ghost use lib.ListN.{length, getD};
 ghost use Rattle.standard.specs.Sizes.{Tx_Wide, Tx_High};
@@ -65,8 +65,10 @@ pub fn mask_edges_chroma(
     ss_hor: usize,
     ss_ver: usize,
 )
-    requires { ⌜ Room (cby4 .0) (cbx4 .0) (cw4 .0) (ch4 .0) «ss_hor» «ss_ver» (length (now masks)) (length (now a)) (length (now l)) × (tx < 19) × («ss_hor» ≤ 1) × («ss_ver» ≤ 1) ⌝ }
-    ensures masks { λ _. ⌜ now (masks .exit) ≡ chromaMasks (cby4 .0) (cbx4 .0) (cw4 .0) (ch4 .0) «skip_inter» tx «ss_hor» «ss_ver» (now (a .entry)) (now (l .entry)) (now (masks .entry)) ⌝ }
+    requires { ⌜ Room (cby4 .0) (cbx4 .0) (cw4 .0) (ch4 .0) «ss_hor» «ss_ver» (length (now masks)) (length (now a)) (length (now l)) × (tx < 19)
+        × («ss_hor» ≤ 1) × («ss_ver» ≤ 1) ⌝ }
+    ensures masks { λ _. ⌜ now (masks .exit) ≡ chromaMasks (cby4 .0) (cbx4 .0) (cw4 .0) (ch4 .0) «skip_inter» tx «ss_hor» «ss_ver»
+        (now (a .entry)) (now (l .entry)) (now (masks .entry)) ⌝ }
     ensures above { λ _. ⌜ now (a .exit) ≡ stores (cw4 .0) (λ _. chromaClass (Tx_High tx)) (now (a .entry)) ⌝ }
     ensures left { λ _. ⌜ now (l .exit) ≡ stores (ch4 .0) (λ _. chromaClass (Tx_Wide tx)) (now (l .entry)) ⌝ }
 {
@@ -111,8 +113,10 @@ pub fn mask_edges_luma(
     a: &mut [u8],
     l: &mut [u8],
 )
-    requires { ⌜ Room (by4 .0) (bx4 .0) (w4 .0) (h4 .0) 0 0 (length (now masks)) (length (now a)) (length (now l)) × (tx < 19) × (inter ≡ true → Covers tx (w4 .0) (h4 .0)) ⌝ }
-    ensures masks { λ _. ⌜ now (masks .exit) ≡ lumaMasks (by4 .0) (bx4 .0) (w4 .0) (h4 .0) inter skip tx (now («tx_masks» .entry)) (now (a .entry)) (now (l .entry)) (now (masks .entry)) ⌝ }
+    requires { ⌜ Room (by4 .0) (bx4 .0) (w4 .0) (h4 .0) 0 0 (length (now masks)) (length (now a)) (length (now l)) × (tx < 19)
+        × (inter ≡ true → Covers tx (w4 .0) (h4 .0)) ⌝ }
+    ensures masks { λ _. ⌜ now (masks .exit) ≡ lumaMasks (by4 .0) (bx4 .0) (w4 .0) (h4 .0) inter skip tx (now («tx_masks» .entry))
+        (now (a .entry)) (now (l .entry)) (now (masks .entry)) ⌝ }
     ensures above { λ _. ⌜ now (a .exit) ≡ stores (w4 .0) (aboveOf inter (now («tx_masks» .entry)) tx (w4 .0) (h4 .0)) (now (a .entry)) ⌝ }
     ensures left { λ _. ⌜ now (l .exit) ≡ stores (h4 .0) (leftOf inter (now («tx_masks» .entry)) tx (w4 .0) (h4 .0)) (now (l .entry)) ⌝ }
 {

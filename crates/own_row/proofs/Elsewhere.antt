@@ -5,6 +5,7 @@ use mathlib.Core.List.{List}
 use Prim.Native.Nat.{ℕ, zero, suc, _+_, _*_, _/_, _%_, _^_, _≤_, _<_}
 use native.Mathlib.Omega.{arith}
 use lib.Arith.{digits-div, digits-mod}
+use lib.Dec.{eqb}
 use lib.ListN.{length, set, length-set}
 use lib.Seq.{getD-set-other}
 use borrow.Author.Tests.{ne-eqb}
@@ -14,11 +15,12 @@ use Rattle.plane.specs.Line.{Pass, columns, rows, Piece, other, passNo}
 use Rattle.plane.specs.Three.{Three}
 use Rattle.plane.specs.Plane.{right, down}
 use Rattle.units.specs.Frame.{records, frameRecords}
-use Rattle.units.specs.Layout.{ssHor}
+use Rattle.units.specs.Layout.{ssHor, ssVer}
 use Rattle.units.specs.Masks.{lumaWord, chromaWord, halfUnits}
 use Rattle.units.specs.Memory.{levelAt}
 use Rattle.units.specs.Units.{chromaUnit}
 use Rattle.units.proofs.Places.{by-ss, chroma-units-le}
+use Rattle.edges.specs.Edges as edges
 use Rattle.edges.specs.Edges.{Grid, Proper, ssOf, unitsOf, side, half, recordAt, classes, wordIn, edgeBit}
 use Rattle.edges.proofs.Bits.{edge-bit-in}
 use Rattle.gap.specs.Numbers.{sbUnits, storedUnits, halfBit}
@@ -28,8 +30,7 @@ use Rattle.gap.proofs.Masks as masks
 use Rattle.gap.proofs.Shapes.{units-stored}
 use Rattle.filter.specs.Filter.{areaOf}
 use Rattle.checks.specs.declared.Call.{Call}
-use Rattle.checks.specs.Call as checks
-use Rattle.checks.specs.Call.{callPass, w4, h4, sb4, gridOf, Filtered, luma, chroma-u, chroma-v, Shaped, Roomy}
+use Rattle.checks.specs.Call.{callPass, w4, h4, sb4, ss-hor, gridOf, Filtered, luma, chroma-u, chroma-v, Shaped, Roomy}
 use Rattle.checks.proofs.TestsPassed.{sizes, proper}
 use Rattle.checks.proofs.Accepted.{accepted-shape, accepted-lengths}
 use Rattle.apply.specs.Apply.{componentOf}
@@ -54,8 +55,12 @@ pass-lt : (d : Pass) → passNo d < 2
 pass-lt columns = omega arith
 pass-lt rows = omega arith
 
+-- a plane of chroma
+later : (n : ℕ) → eqb (suc n) 0 ≡ false
+later n = ne-eqb (suc n) 0 (λ e. omega arith)
+
 area-chroma : (c : Call) (n : ℕ) (d : Pass) → areaOf (componentOf c (suc n)) d ≡ suc (suc n)
-area-chroma c n d = rw (ne-eqb (suc n) 0 (λ e. omega arith)) refl
+area-chroma c n d = rw (later n) refl
 
 area-lt : (c : Call) (n : ℕ) (d : Pass) → n ≤ 2 → areaOf (componentOf c n) d < 4
 area-lt c zero d h = omega (arith, pass-lt d)
@@ -66,7 +71,7 @@ area-grid : (c : Call) (n n′ : ℕ) (d d′ : Pass) → areaOf (componentOf c 
 area-grid c zero zero d d′ e = refl
 area-grid c zero (suc n′) d d′ e = absurd (omega (arith, pass-lt d, area-chroma c n′ d′))
 area-grid c (suc n) zero d d′ e = absurd (omega (arith, pass-lt d′, area-chroma c n d))
-area-grid c (suc n) (suc n′) d d′ e = refl
+area-grid c (suc n) (suc n′) d d′ e = rw (later n, later n′) refl
 
 own-level : (c : Call) (n x y : ℕ) → n ≤ 2 → x < w4 c → w4 c ≤ c .«level_stride» → OwnLine (gridOf c n) (sb4 c) (c .row) (passNo (callPass c)) y
     → ¬ OtherLevel c (levelAt (c .«level_stride») x y (areaOf (componentOf c n) (callPass c)))
@@ -77,7 +82,8 @@ own-level c n x y l r h o a =
     let p : y * c .«level_stride» + x ≡ a .y * c .«level_stride» + a .x = omega (arith, a .at) in
     let q : areaOf (componentOf c n) (callPass c) ≡ areaOf (componentOf c (a .plane)) (a .pass) = omega (arith, a .at) in
     let z = digits y (a .y) x (a .x) (c .«level_stride») (omega arith) (omega (arith, a .right)) p in
-    a .line (rw (← area-grid c n (a .plane) (callPass c) (a .pass) q, ← z .0) o)
+    let g = area-grid c n (a .plane) (callPass c) (a .pass) q in
+    a .line (subst (λ (G : Grid). OwnLine G (sb4 c) (c .row) (passNo (callPass c)) (a .y)) g (rw (← z .0) o))
 
 -- ---- bits
 
@@ -181,10 +187,17 @@ module _ (c : Call) (h : Shaped c) where
   of-own-row : (n n′ : ℕ) (d d′ : Pass) (q : Piece) (u j : ℕ) → q .0 < unitsOf (gridOf c n′) d′ → q .1 < unitsOf (gridOf c n′) (other d′)
       → Across (gridOf c n) d (sb4 c) (c .row) u → Along (gridOf c n) d (sb4 c) (c .row) j
       → Told (gridOf c n) (gridOf c n′) d d′ u (q .0) j (q .1 / half (gridOf c n′) d′) → OwnLine (gridOf c n′) (sb4 c) (c .row) 0 (down d′ q)
-  of-own-row zero zero d d′ q u j x y a l t = of-row (gridOf c 0) (proper c 0) (sb4 c) (c .row) (sizes c h) d d′ q u j x y a l t
-  of-own-row zero (suc n′) d d′ q u j x y a l t = absurd (false≢true (sym (t .area)))
-  of-own-row (suc n) zero d d′ q u j x y a l t = absurd (false≢true (t .area))
-  of-own-row (suc n) (suc n′) d d′ q u j x y a l t = of-row (gridOf c 1) (proper c 1) (sb4 c) (c .row) (sizes c h) d d′ q u j x y a l t
+  of-own-row n n′ d d′ q u j x y a l t = go (eqb n 0) (eqb n′ 0) x y a l t
+    where
+      G : Bool → Grid
+      G b = edges.gridOf b (cond b 0 (ssHor (c .layout))) (cond b 0 (ssVer (c .layout))) (w4 c) (h4 c)
+
+      go : (b b′ : Bool) → q .0 < unitsOf (G b′) d′ → q .1 < unitsOf (G b′) (other d′) → Across (G b) d (sb4 c) (c .row) u → Along (G b) d (sb4 c) (c .row) j
+          → Told (G b) (G b′) d d′ u (q .0) j (q .1 / half (G b′) d′) → OwnLine (G b′) (sb4 c) (c .row) 0 (down d′ q)
+      go true true x y a l t = of-row (gridOf c 0) (proper c 0) (sb4 c) (c .row) (sizes c h) d d′ q u j x y a l t
+      go true false x y a l t = absurd (false≢true (sym (t .area)))
+      go false true x y a l t = absurd (false≢true (t .area))
+      go false false x y a l t = of-row (gridOf c 1) (proper c 1) (sb4 c) (c .row) (sizes c h) d d′ q u j x y a l t
 
   own-bit : (n u k j b : ℕ) → Across (gridOf c n) (callPass c) (sb4 c) (c .row) u → Along (gridOf c n) (callPass c) (sb4 c) (c .row) j
       → k < classes (gridOf c n) → b < 16 → ¬ OtherEdge c (halfBit (gridOf c n) (callPass c) u k j b)
@@ -207,21 +220,15 @@ plane-le c luma = omega arith
 plane-le c (chroma-u a b) = omega arith
 plane-le c (chroma-v a b) = omega arith
 
-area-is : (c : Call) {n : ℕ} → Filtered c n → checks.areaOf c n ≡ areaOf (componentOf c n) (callPass c)
-area-is c luma = refl
-area-is c (chroma-u a b) = refl
-area-is c (chroma-v a b) = refl
-
 right-in : (c : Call) (n x : ℕ) → x < unitsOf (gridOf c n) columns → x < w4 c
-right-in c zero x h = omega (arith, chroma-units-le (w4 c) 0 (omega arith))
-right-in c (suc n) x h = omega (arith, chroma-units-le (w4 c) (ssHor (c .layout)) (proper c 1 .ss-hor-le))
+right-in c n x h = omega (arith, chroma-units-le (w4 c) (ss-hor c n) (proper c n .ss-hor-le))
 
 pub elsewhere : (c : Call) (ls ls′ ms ms′ : List ℕ) → Shaped c → Roomy c (length ls) (length ms) → Elsewhere c ls ls′ ms ms′ → SameTables c ls ls′ ms ms′
 elsewhere c ls ls′ ms ms′ h r x =
     record {
       levels-long = x .levels-long;
       masks-long = x .masks-long;
-      levels = λ n f. record { same = λ a b y _ o. rw (area-is c f) (x .levels _ (own-level c n a b (plane-le c f) (right-in c n a y) (r .width) (omega (arith, o .0), o .1))) };
+      levels = λ n f. record { same = λ a b y _ o. x .levels _ (own-level c n a b (plane-le c f) (right-in c n a y) (r .width) (omega (arith, o .0), o .1)) };
       bits = λ n f. record { same = λ u k j b y z a l. x .bits _ (own-bit c h n u k j b y z a l) };
     }
 
@@ -229,8 +236,11 @@ elsewhere c ls ls′ ms ms′ h r x =
 
 bit-room : (c : Call) (n len : ℕ) (d : Pass) (q : Piece) (k : ℕ) → 640 * frameRecords (w4 c) (h4 c) ≤ len → q .0 < unitsOf (gridOf c n) d
     → q .1 < unitsOf (gridOf c n) (other d) → k < classes (gridOf c n) → edgeBit (gridOf c n) d q k / 16 < len
-bit-room c zero len d q k h x y l = omega (arith, edge-bit-in (gridOf c 0) (proper c 0) d q k x y (omega arith))
-bit-room c (suc n) len d q k h x y l = omega (arith, edge-bit-in (gridOf c 1) (proper c 1) d q k x y l)
+bit-room c n len d q k h x y l = omega (arith, edge-bit-in (gridOf c n) (proper c n) d q k x y (room (eqb n 0) l))
+  where
+    room : (b : Bool) → k < cond b 3 2 → k < cond b 4 2
+    room true l = omega arith
+    room false l = l
 
 module _ (c : Call) (ls ms : List ℕ) (h : Shaped c) (r : Roomy c (length ls) (length ms)) where
   pub later-level : (d : Pass) (n x y v : ℕ) → n ≤ 2 → x < w4 c → (c .row + 1) * sbUnits (gridOf c n) (sb4 c) ≤ y

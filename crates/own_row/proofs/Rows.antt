@@ -1,5 +1,5 @@
 -- What a call leaves is told by what it looks at: an accepted one does its pass over each filtered plane, which sees and changes no sample farther; a refused one keeps all.
-use mathlib.Core.Path.{_≡_, refl, sym, ap, _∙_, subst⁻¹}
+use mathlib.Core.Path.{_≡_, refl, sym, ap, _∙_}
 use mathlib.Core.Bool.{Bool, true, false, cond}
 use mathlib.Core.List.{List}
 use mathlib.Core.Logic.{by-cases}
@@ -10,6 +10,7 @@ use native.Mathlib.Numerals.{add-one}
 use native.Mathlib.Omega.{arith}
 use lib.Arith.{digits-div, digits-mod}
 use lib.Dec.{eqb}
+use borrow.Author.Tests.{ne-eqb}
 use lib.ListN.{length, getD}
 use Rattle.loops.specs.Exactly.{Reflects}
 use Rattle.plane.specs.Line.{columns, rows}
@@ -17,24 +18,23 @@ use Rattle.plane.specs.Plane.{Plane, colsOf, rowsOf}
 use Rattle.plane.specs.Three.{Three}
 use Rattle.units.specs.Frame.{stored}
 use Rattle.units.proofs.Places.{stored-records}
-use Rattle.edges.specs.Edges.{Proper}
 use Rattle.filter.specs.Filter.{sweepOf}
 use Rattle.filter.proofs.Sweeps as sweeps
 use Rattle.checks.specs.declared.Call.{Call}
-use Rattle.checks.specs.Call.{Lent, samples, callPass, sb4, ss-hor, gridOf, strideOf, areaOf, chromaOn, Filtered, luma, chroma-u, chroma-v}
+use Rattle.checks.specs.Call.{Lent, samples, callPass, ss-hor, strideOf, chromaOn, Filtered, luma, chroma-u, chroma-v}
 use Rattle.checks.specs.Tests.{number}
-use Rattle.checks.proofs.TestsPassed.{sizes, plane-ss-hor-le, proper}
+use Rattle.checks.proofs.TestsPassed.{sizes, proper}
 use Rattle.checks.proofs.Accepted.{accepted-shape, accepted-stride}
 use Rattle.checks.proofs.FaultTests.{reflects-on}
 use Rattle.apply.specs.Apply.{Limits, componentOf, tablesOf, planeAt, threeOf, FilterAnswer}
 use Rattle.apply.specs.Promises.{passed}
 use Rattle.apply.proofs.Laws as apply
-use Rattle.apply.proofs.ReadyPlanes.{grid-is, ready}
+use Rattle.apply.proofs.ReadyPlanes.{ready}
 use Rattle.frames.specs.Within.{WithinRow, Agree}
 use Rattle.frames.proofs.Regions.{fair, sweep-outside, sweep-inside}
-use Rattle.own_row.specs.Own.{SameLevels, SameBits, OwnSample, SameSamples, SameTables, SameLent, withSamples}
+use Rattle.own_row.specs.Own.{OwnSample, SameSamples, SameTables, SameLent, withSamples}
 use Rattle.own_row.proofs.Numbers.{number-same}
-use Rattle.own_row.proofs.Passes.{Levels, sweep-same}
+use Rattle.own_row.proofs.Passes.{sweep-same}
 
 passed-is : (c : Call) (P : Plane) (x : List ℕ) → passed c P x ≡ sweepOf P (callPass c) (c .row) x
 passed-is c P x = go (c .rowwise)
@@ -42,13 +42,6 @@ passed-is c P x = go (c .rowwise)
     go : (b : Bool) → cond b (rowsOf P (c .row) x) (colsOf P (c .row) x) ≡ sweepOf P (cond b rows columns) (c .row) x
     go true = sym (sweeps.promises .rows-are P (c .row) x)
     go false = sym (sweeps.promises .columns-are P (c .row) x)
-
--- the tables of a plane, as the filter knows it and as the numbers do
-own-levels : (c : Call) {n : ℕ} → Filtered c n → (ls ls′ : List ℕ) → SameLevels (gridOf c n) (callPass c) (sb4 c) (c .row) (c .«level_stride») (areaOf c n) ls ls′
-    → Levels (componentOf c n) (callPass c) (c .row) ls ls′
-own-levels c luma ls ls′ s = s
-own-levels c (chroma-u a b) ls ls′ s = s
-own-levels c (chroma-v a b) ls ls′ s = s
 
 -- ---- the samples that a call sees, by their index
 
@@ -59,7 +52,7 @@ module _ (c : Call) (l : Limits) (m : Lent) (n : ℕ) where
         x = i % strideOf c n;
         y = i / strideOf c n;
         at = sym (div-add-mod' i (strideOf c n));
-        right = rw (stored-records (c .width .0) (ss-hor c n) (plane-ss-hor-le c n)) (w .right);
+        right = rw (stored-records (c .width .0) (ss-hor c n) (proper c n .ss-hor-le)) (w .right);
         from = w .from;
         to = rw add-one (w .to);
       }
@@ -70,7 +63,7 @@ module _ (c : Call) (l : Limits) (m : Lent) (n : ℕ) where
       let a : i % strideOf c n ≡ s .x = ap (λ (j : ℕ). j % strideOf c n) (s .at) ∙ digits-mod (s .y) x in
       let b : i / strideOf c n ≡ s .y = ap (λ (j : ℕ). j / strideOf c n) (s .at) ∙ digits-div (s .y) x in
       record {
-        right = rw a (rw (stored-records (c .width .0) (ss-hor c n) (plane-ss-hor-le c n)) at (s .right));
+        right = rw a (rw (stored-records (c .width .0) (ss-hor c n) (proper c n .ss-hor-le)) at (s .right));
         from = rw b (s .from);
         to = rw b (rw add-one at (s .to));
       }
@@ -82,9 +75,8 @@ module _ (c : Call) (l : Limits) (m : Lent) (e : number c m ≡ 0) {n : ℕ} (f 
       → passed c (planeAt c l m n) x ≡ passed c (planeAt c l m′ n) x
   pass-same m′ s x =
       passed-is c (planeAt c l m n) x
-      ∙ sweep-same (componentOf c n) (subst⁻¹ Proper (grid-is c f) (proper c n)) (sizes c (accepted-shape c m e)) (callPass c) (c .row) (c .depth) (l .e) (l .i)
-      (m .levels) (m′ .levels) (m .masks) (m′ .masks) (own-levels c f _ _ (s .levels n f))
-      (subst⁻¹ (λ G. SameBits G (callPass c) (sb4 c) (c .row) (m .masks) (m′ .masks)) (grid-is c f) (s .bits n f)) x
+      ∙ sweep-same (componentOf c n) (proper c n) (sizes c (accepted-shape c m e)) (callPass c) (c .row) (c .depth) (l .e) (l .i)
+      (m .levels) (m′ .levels) (m .masks) (m′ .masks) (s .levels n f) (s .bits n f) x
       ∙ sym (passed-is c (planeAt c l m′ n) x)
 
   pass-sees : (x y : List ℕ) → SameSamples c n x y → SameSamples c n (passed c (planeAt c l m n) x) (passed c (planeAt c l m n) y)
@@ -156,7 +148,10 @@ module _ (c : Call) (l : Limits) (m : Lent) (r : ℕ) (s : Three (List ℕ)) (a 
   others zero i h = left-keeps luma i h
   others (suc zero) i h = by-cases (dec-u c) (λ f. left-keeps f i h) (λ n. ap (λ z. getD z i 0) (apply.promises .each c l m r s a .u-stays n))
   others (suc (suc n)) i h =
-      by-cases (dec-v c) (λ f. left-keeps f i (λ x. h (record { x = x .x; y = x .y; at = x .at; right = x .right; from = x .from; to = x .to })))
+      let e : eqb (suc (suc n)) 0 ≡ false = ne-eqb (suc (suc n)) 0 (λ z. omega arith) in
+      by-cases (dec-v c)
+      (λ f. left-keeps f i
+      (λ x. h (record { x = x .x; y = x .y; at = rw e (x .at); right = rw e (x .right); from = rw e (x .from); to = rw e (x .to) })))
       (λ n. ap (λ z. getD z i 0) (apply.promises .each c l m r s a .v-stays n))
 
 -- ---- two answers

@@ -71,7 +71,8 @@ module _ (b : Block) (level-stride : ℕ) (m : Lent) (ok : number b level-stride
       where
         go : (i : Bool) → b .inter ≡ i
             → Added true (cond i inter intra) (inFrame b lumaBit) (m .masks)
-            (cond (seesLuma b) (inRecord (640 * at) (folds.lumaMasks (b .y .0 % 32) (b .x .0 % 32) (bw4 b) (bh4 b) i (b .skip) (b .tx) tm (m .above) (m .left)) (m .masks)) (m .masks))
+            (cond (seesLuma b) (inRecord (640 * at) (folds.lumaMasks (b .y .0 % 32) (b .x .0 % 32) (bw4 b) (bh4 b) i (b .skip) (b .tx) tm (m .above) (m .left)) (m .masks))
+            (m .masks))
         go true i =
             added inter lumaBit at _ (m .masks) true
             (λ e. (luma-in e, mask-edges.promises .inter _ _ _ _ (b .skip) (b .tx) tm (m .above) (m .left) _ (luma-room e) (luma-covers b s e i) .0))

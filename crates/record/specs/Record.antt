@@ -99,7 +99,8 @@ lumaLevels b level-stride values ls =
 abbrev pub chromaLevels : Block → ℕ → List ℕ → List ℕ → List ℕ
 chromaLevels b level-stride values ls =
     cond (seesChroma b)
-    (fillLevels (levelAt level-stride (chromaUnit (ss-hor b) (b .x .0)) (chromaUnit (ss-ver b) (b .y .0)) 2) level-stride (cbw4 b) (cbh4 b) (valueOf b values 2) (valueOf b values 3) ls)
+    (fillLevels (levelAt level-stride (chromaUnit (ss-hor b) (b .x .0)) (chromaUnit (ss-ver b) (b .y .0)) 2) level-stride (cbw4 b) (cbh4 b)
+    (valueOf b values 2) (valueOf b values 3) ls)
     ls
 
 -- ---- masks

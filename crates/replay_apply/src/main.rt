@@ -71,7 +71,7 @@ fn frame_16(head: &[u8; 160]) {
 
 fn replayed() -> bool {
     let mut head = [0u8; 160];
-    if !memory::read(&mut head) {
+    if !wire::read(&mut head) {
         return false;
     }
     if wire::u32_at(&head, 4) == 0 {

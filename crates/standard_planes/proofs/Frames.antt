@@ -1,5 +1,5 @@
 -- Demand 3's samples are the standard's: an edge piece of a frame belongs to the call of its superblock row, which is accepted, so it is the standard's.
-use Prim.Native.Nat.{ℕ, zero, suc, _*_, _/_, _≤_, _<_}
+use Prim.Native.Nat.{ℕ, _*_, _/_, _≤_, _<_}
 use native.Mathlib.Nat.{div-add-mod', mod-lt, div-lt-iff-lt-mul}
 use native.Mathlib.Omega.{arith}
 use mathlib.Core.Bool.{Bool, true, false}
@@ -35,10 +35,6 @@ use Rattle.standard_planes.proofs.Pieces.{limits-are, no-level, piece-i
 use Rattle.standard_planes.proofs.PieceSamples.{asked-row}
 use Rattle.standard_planes.proofs.Steps.{steps, run-long, only}
 
-component-is : (f : Frame) (d : Pass) (k n : ℕ) → componentOf (callAt f d k) n ≡ componentOf (f .head) n
-component-is f d k zero = refl
-component-is f d k (suc n) = refl
-
 module _ (f : Frame) (s : Three (List ℕ)) (a : Accepted f s) where
   module _ (n : ℕ) (fil : Filtered (f .head) n) where
     abbrev C : Component
@@ -60,8 +56,7 @@ module _ (f : Frame) (s : Three (List ℕ)) (a : Accepted f s) where
 
     -- what a call of the frame leaves of it
     its : (d : Pass) (k : ℕ) → k < sbRows f → Done C T d k (samples (lentOf f s) n)
-    its d k h =
-        subst (λ c. Done c T d k (samples (lentOf f s) n)) (component-is f d k n) (done f k s d (a .all d k h) (of-call d k))
+    its d k h = done f k s d (a .all d k h) (of-call d k)
 
     stored : Stored C T (length (samples (lentOf f s) n))
     stored = its columns 0 (a .some) .stored

@@ -38,9 +38,10 @@ is-whole-requires c κs = search needs
 
 one-transform-requires : tie.Need-one-transform-requires
 one-transform-requires c κs =
-    let p = c .before .before .before .before .before .before .before .before .before .before .pre in
+    let c₅ = c .before .before .before .before .before in
+    let p = c₅ .before .before .before .before .before .pre in
     let w = tx-rule _ (p .1) in
-    (p .0, rw (c .before .before .before .before .before .before .luma-tx-wide .ensures) (w .width .low), rw (c .before .before .before .before .before .luma-tx-high .ensures) (w .height .low))
+    (p .0, rw (c₅ .before .luma-tx-wide .ensures) (w .width .low), rw (c₅ .luma-tx-high .ensures) (w .height .low))
 
 same-length : tie.Need-same-length
 same-length c = search needs
@@ -55,14 +56,15 @@ returns : tie.Need-returns
 unfolding Words
 returns c =
     let c₆ = c .before .before .before .before .before .before in
-    let c₁₁ = c₆ .before .before .before .before .before in
+    let c₁₀ = c₆ .before .before .before .before in
+    let c₁₁ = c₁₀ .before in
     let c₁₆ = c₁₁ .before .before .before .before .before in
     let g = c₁₆ .before .args in
     let p = c₁₆ .before .pre in
     let w = c₁₁ .before .before .luma-tx-wide .ensures in
     let h = c₁₁ .before .luma-tx-high .ensures in
     let s = whole-at (g .inter) (g .tx) (g .w4 .0) (g .h4 .0) _ _ (getD (now (g .tx-masks)) 0 0) _ (c₁₁ .is-whole .ensures) w h
-    (c .before .before .before .before .before .before .before .before .before .before .if1 .taken) in
+    (c₁₀ .if1 .taken) in
     let W = whole-luma (now (g .tx-masks)) (g .tx) (g .w4 .0) (g .h4 .0) (g .by4 .0) (g .bx4 .0) (g .skip) (now (g .a)) (now (g .l)) (now (g .masks)) (p .0)
     (λ i. omega (arith, c₁₆ .slice-known .given i)) (g .inter) (p .2) s in
     let E = c₆ .one-transform .ensures in (

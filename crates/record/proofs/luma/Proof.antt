@@ -17,11 +17,13 @@ use Rattle.record.proofs.luma.Tie as tie
 sees : (d : tie.Else1) → seesLuma (d .before .before .before .before .before .before .before .before .args .b) ≡ true
 sees d =
     let b = d .before .before .before .before .before .before .before .before .args .b in
-    sym (seen-as _ _ (bw4 b) (bh4 b) _ (d .before .seen .ensures) (d .before .before .before .luma-wide .ensures) (d .before .before .luma-high .ensures)) ∙ not-false _ (d .if1 .left)
+    sym (seen-as _ _ (bw4 b) (bh4 b) _ (d .before .seen .ensures) (d .before .before .before .luma-wide .ensures) (d .before .before .luma-high .ensures))
+    ∙ not-false _ (d .if1 .left)
 
 room : (d : tie.Else1)
-    → (d .before .before .before .luma-wide .result .0 ≤ length (now (d .before .before .before .before .before .before .before .before .args .above)))
-    × (d .before .before .luma-high .result .0 ≤ length (now (d .before .before .before .before .before .before .before .before .args .left)))
+    → let w = d .before .before .before in
+    let a = w .before .before .before .before .before .args in
+    (w .luma-wide .result .0 ≤ length (now (a .above))) × (d .before .before .luma-high .result .0 ≤ length (now (a .left)))
 room d = let n = d .before .before .before .before .before .before .before .before .pre .4 (sees d) in
     (rw (d .before .before .before .luma-wide .ensures) (n .0), rw (d .before .before .luma-high .ensures) (n .1))
 
@@ -37,7 +39,8 @@ seen-requires c κs = search needs
 returns : tie.Need-returns
 returns c =
     let a = c .before .before .before .before .before .before .before .before in
-    let s = seen-as _ _ (bw4 (a .args .b)) (bh4 (a .args .b)) _ (c .before .seen .ensures) (c .before .before .before .luma-wide .ensures) (c .before .before .luma-high .ensures) in
+    let w = c .before .before .before .luma-wide .ensures in
+    let s = seen-as _ _ (bw4 (a .args .b)) (bh4 (a .args .b)) _ (c .before .seen .ensures) w (c .before .before .luma-high .ensures) in
     rw (sym s ∙ not-true _ (c .if1 .taken)) (refl, (refl, (refl, refl)))
 
 luma-levels-requires : tie.Need-luma-levels-requires

@@ -34,4 +34,10 @@ returns c =
 pub bit-at-spec : {M : Type 1} → statement M
 bit-at-spec =
     tie.close
-    (tie.spec plane-ss-hor-requires plane-ss-ver-requires across-requires along-requires edge-bit-requires returns)
+    (tie.spec
+    plane-ss-hor-requires
+    plane-ss-ver-requires
+    across-requires
+    along-requires
+    edge-bit-requires
+    returns)

@@ -31,7 +31,8 @@ returns c =
     let w = c .before .before .before .before .before .before .before .edge-word in
     let a = d .args in
     c .before .before .set-at .ensures ∙ ap (mark (now (a .masks)))
-    (bit-low (passOf (a .p .rowwise)) (a .p .unit + a .u) (a .class) (a .p .luma) (a .p .half) (w .result) (a .p .place + a .v) (w .ensures .0) (c .before .before .before .before .if1 .taken))
+    (bit-low (passOf (a .p .rowwise)) (a .p .unit + a .u) (a .class) (a .p .luma) (a .p .half) (w .result) (a .p .place + a .v) (w .ensures .0)
+    (c .before .before .before .before .if1 .taken))
 
 add-set-at : tie.Need-add-set-at
 add-set-at c = search needs

@@ -61,10 +61,11 @@ same-length-3 c = search needs
 returns : tie.Need-returns
 returns c =
     let c₆ = c .before .before .before .before .before .before in
-    let a = c .before .before .before .before .before .before .before .before .before .before .before .before .before .before .before .before in
+    let c₁₂ = c₆ .before .before .before .before .before .before in
+    let a = c₁₂ .before .before .before .before in
     let p = a .pre in (
       luma-put (a .args .b) _ _ _ (now (a .args .above)) (now (a .args .left)) (now (a .args .masks)) _
-          (c .before .before .before .before .before .before .before .before .before .before .before .before .record-at .ensures) (now (a .args .tx-masks)) (p .1) (p .5) (p .6)
+          (c₁₂ .record-at .ensures) (now (a .args .tx-masks)) (p .1) (p .5) (p .6)
           (c₆ .mask-edges-luma .ensures .0),
       (
         rw (p .1) (c₆ .mask-edges-luma .ensures .1 .0 ∙ rw (p .5, p .6) refl),
