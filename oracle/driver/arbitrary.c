@@ -63,18 +63,23 @@ static int may_answer(const struct call *c, u32 number) {
     return number == 0;
 }
 
+// Prints how often a call answered a number; whether it ever did, if it may.
+static int print_count(int c, u32 number) {
+    if (!may_answer(&CALLS[c], number)) return printf("%8s", "-"), 1;
+    printf("%8lu", answers[c][number]);
+    return answers[c][number] > 0;
+}
+
 // Prints the table; whether every number that a call may answer was answered.
 static int print_table(void) {
     int is_full = 1;
     printf("%-15s%9s", "call", "calls");
-    for (u32 n = 0; n < FORM; n++) printf("%8u", n);
+    for (u32 n = 0; n <= HIGHEST; n++) printf("%8u", n);
     printf("%8s%8s\n", "form", "wrong");
     for (int c = 0; c < CALL_COUNT; c++) {
         printf("%-15s%9lu", CALLS[c].name, (made + CALL_COUNT - 1 - c) / CALL_COUNT);
-        for (u32 n = 0; n <= FORM; n++) {
-            if (may_answer(&CALLS[c], n)) printf("%8lu", answers[c][n]), is_full &= answers[c][n] > 0;
-            else printf("%8s", "-");
-        }
+        for (u32 n = 0; n <= HIGHEST; n++) is_full &= print_count(c, n);
+        is_full &= print_count(c, FORM);
         printf("%8lu\n", wrong[c]);
     }
     return is_full;

@@ -1,6 +1,7 @@
 // The edge listing that document 01 asks for: its text, and the number that refuses the script.
 
-enum { FORM = 13, LONGEST = 65535, SIDE = 256, FIELDS = 7 };
+// FORM is no number: the listing has the word `form` in its place.
+enum { FORM = 255, LONGEST = 65535, SIDE = 256, FIELDS = 7 };
 
 static struct {
     u8 at[400000];

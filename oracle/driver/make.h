@@ -300,14 +300,14 @@ static void fault_12(struct asked *a) {
 }
 
 static void take_faults(struct asked *a, size_t count) {
-    static void (*const fault[13])(struct asked *) = {
+    static void (*const fault[HIGHEST + 1])(struct asked *) = {
         0,       fault_1, fault_2, fault_3,  fault_4,  fault_5,  fault_6,
         fault_7, fault_8, fault_9, fault_10, fault_11, fault_12,
     };
     u32 chosen = 0, numbers = 0;
     while (a->call->numbers[numbers]) numbers++;
     while (count-- > 0) chosen |= 1u << a->call->numbers[below(numbers)];
-    for (u32 n = 12; n > 0; n--)
+    for (u32 n = HIGHEST; n > 0; n--)
         if (chosen >> n & 1) fault[n](a);
 }
 

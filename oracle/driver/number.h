@@ -310,9 +310,11 @@ static int given_12(const struct asked *a) {
     return 0;
 }
 
+enum { HIGHEST = 12 };
+
 // Several at once: the lowest number.
 static u32 number(const struct asked *a) {
-    static int (*const given[13])(const struct asked *) = {
+    static int (*const given[HIGHEST + 1])(const struct asked *) = {
         0,       given_1, given_2, given_3,  given_4,  given_5,  given_6,
         given_7, given_8, given_9, given_10, given_11, given_12,
     };

@@ -1,4 +1,4 @@
--- Level values and level bytes stay below 256, and a number is at most 13, line by line.
+-- Level values and level bytes stay below 256, and a number is at most `form`, line by line.
 use mathlib.Core.Bool.{Bool, true, false, cond, not, _&&_}
 use mathlib.Core.List.{List, [], _∷_}
 use mathlib.Core.Logic.{by-cases}

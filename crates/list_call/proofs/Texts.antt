@@ -15,7 +15,7 @@ use Rattle.list_edges.specs.Listed.{listText}
 use Rattle.list_put.proofs.Lengths.{promises as lists}
 use Rattle.list_put.specs.Written.{heldOf, Fits}
 use Rattle.list_steps.specs.declared.State.{State}
-use Rattle.list_steps.specs.Steps.{form, Kept, keptOf, stateOf}
+use Rattle.list_steps.specs.Steps.{form, Kept}
 use Rattle.list_call.specs.Listing.{linesOf, start, after, heldIn, textIn, textOf, outputOf, room, ListAnswer, Left, Texted, Listable}
 use Rattle.list_call.proofs.PartLeft.{left}
 use Rattle.list_call.proofs.Rooms.{form-short, refused-short}
@@ -103,12 +103,8 @@ stored-text : (t x u : List ℕ) (n : ℕ) → Put t 0 x u n → take n u ≡ x
 stored-text t x u n p =
     ap (λ (l : List ℕ). take n l) (p .stored) ∙ take-at x (drop (0 + length x) t) n (omega (arith, p .next))
 
-pub from-start : (s : State) (k : Kept) (script : List ℕ) → s ≡ stateOf 0 0 0 0 0 0
-    → k ≡ after (keptOf s (replicate 64 0) (replicate 16384 0) (replicate 2560 0) (replicate 64 2) (replicate 64 2) (replicate 64 1) (replicate 64 1)) (linesOf script)
-    → k ≡ after start (linesOf script)
-unfolding start
-from-start s k script e h =
-    h ∙ ap (λ (x : State). after (keptOf x (replicate 64 0) (replicate 16384 0) (replicate 2560 0) (replicate 64 2) (replicate 64 2) (replicate 64 1) (replicate 64 1)) (linesOf script)) e
+pub from-start : (s k : Kept) (script : List ℕ) → s ≡ start → k ≡ after s (linesOf script) → k ≡ after start (linesOf script)
+from-start s k script e h = h ∙ ap (λ (x : Kept). after x (linesOf script)) e
 
 module _ (script : List ℕ) (k : Kept) (kept : k ≡ after start (linesOf script)) {t u : List ℕ} {n : ℕ}
     (texted : Texted (k .state) (k .memory .levels) (k .memory .masks) t u n) where

@@ -1,6 +1,7 @@
 // Public: a script of bytes into an output of bytes, the edge listing.
 use list_fields::end_of;
 use list_put::put_list;
+use list_steps::Carried;
 use list_steps::State;
 use list_steps::step;
 use list_text::put_bytes;
@@ -8,126 +9,82 @@ use list_text::put_form;
 use list_text::put_refused;
 use units::Sample;
 use units::luma_units;
+use units::numbers::FORM;
 ghost use mathlib.Core.Path.{_≡_};
 ghost use Prim.Native.Nat.{_+_, _<_, _≤_};
-ghost use lib.ListN.{length};
+ghost use lib.ListN.{length, replicate};
 ghost use Rattle.list_text.specs.Text.{Put};
 ghost use Rattle.list_edges.specs.Listed.{listText};
-ghost use Rattle.list_steps.specs.Steps.{keptOf, stateOf};
-ghost use Rattle.list_call.specs.Listing.{linesOf, after, heldIn, room, ListAnswer, Texted, Listable, Taken};
+ghost use Rattle.list_steps.specs.Steps.{keptOf};
+ghost use Rattle.list_call.specs.Listing.{linesOf, start, after, heldIn, room, ListAnswer, Texted, Listable, Taken};
 ghost use Rattle.list_call.specs.Promises.{Promises};
 
 const END: u8 = 10;
 
-const FORM: u32 = 13;
-
 // What the context bytes start at.
-pub const LUMA_START: u8 = 2;
+const LUMA_START: u8 = 2;
 
-pub const CHROMA_START: u8 = 1;
+const CHROMA_START: u8 = 1;
 
-// The state after the lines taken, and where the rest begins.
+// What is carried after the lines taken, and where the rest begins.
 pub struct Rest {
-    pub state: State,
+    pub carried: Carried,
     pub at: usize,
 }
 
-// Before the first line.
-pub fn start() -> State
-    ensures { λ r. ⌜ r ≡ stateOf 0 0 0 0 0 0 ⌝ }
+// Before the first line, when level bytes and masks are 0.
+pub fn start() -> Carried
+    ensures { λ r. ⌜ keptOf r (replicate 16384 0) (replicate 2560 0) ≡ start ⌝ }
 {
-    State {
+    let state = State {
         line: 0,
         phase: 0,
         number: 0,
         width: 0,
         height: 0,
         layout: 0,
+    };
+    Carried {
+        state,
+        values: [0u8; 64],
+        above: [LUMA_START; 64],
+        left: [LUMA_START; 64],
+        above_uv: [CHROMA_START; 64],
+        left_uv: [CHROMA_START; 64],
     }
 }
 
 pub fn take_lines(
-    s: State,
+    c: Carried,
     part: &[u8],
-    values: &mut [u8; 64],
     levels: &mut [u8; 16384],
     masks: &mut [u16; 2560],
-    above: &mut [u8; 64],
-    left: &mut [u8; 64],
-    above_uv: &mut [u8; 64],
-    left_uv: &mut [u8; 64],
 ) -> Rest
-    requires { ⌜ s .line + length (now part) < 18446744073709551616 ⌝ }
-    ensures { λ r. ⌜ Taken
-        (keptOf s (now (values .entry)) (now (levels .entry)) (now (masks .entry)) (now (above .entry)) (now (left .entry)) (now («above_uv» .entry)) (now («left_uv» .entry)))
-        (now (part .entry))
-        (keptOf (r .state) (now (values .exit)) (now (levels .exit)) (now (masks .exit)) (now (above .exit)) (now (left .exit)) (now («above_uv» .exit)) (now («left_uv» .exit)))
-        (r .at) ⌝ }
+    requires { ⌜ c .state .line + length (now part) < 18446744073709551616 ⌝ }
+    ensures { λ r. ⌜ Taken (keptOf c (now (levels .entry)) (now (masks .entry))) (now (part .entry))
+        (keptOf (r .carried) (now (levels .exit)) (now (masks .exit))) (r .at) ⌝ }
 {
-    let mut k = s;
+    let mut k = c;
     let mut at = 0;
     let mut e = end_of(part, 0, END);
     while e < part.len() {
-        k = step(
-            k,
-            &part[at..e],
-            values,
-            levels,
-            masks,
-            above,
-            left,
-            above_uv,
-            left_uv,
-        );
+        k = step(k, &part[at..e], levels, masks);
         at = e + 1;
         e = end_of(part, at, END);
     }
-    Rest { state: k, at: at }
+    Rest { carried: k, at: at }
 }
 
-// The state after all lines, the last with its end or without.
-pub fn run(
-    s: State,
-    script: &[u8],
-    values: &mut [u8; 64],
-    levels: &mut [u8; 16384],
-    masks: &mut [u16; 2560],
-    above: &mut [u8; 64],
-    left: &mut [u8; 64],
-    above_uv: &mut [u8; 64],
-    left_uv: &mut [u8; 64],
-) -> State
-    requires { ⌜ s .line + length (now script) < 18446744073709551616 ⌝ }
-    ensures { λ r. ⌜ keptOf r (now (values .exit)) (now (levels .exit)) (now (masks .exit)) (now (above .exit)) (now (left .exit)) (now («above_uv» .exit)) (now («left_uv» .exit))
-        ≡ after
-        (keptOf s (now (values .entry)) (now (levels .entry)) (now (masks .entry)) (now (above .entry)) (now (left .entry)) (now («above_uv» .entry)) (now («left_uv» .entry)))
-        (linesOf (now (script .entry))) ⌝ }
+// After all lines, the last with its end or without.
+pub fn run(c: Carried, script: &[u8], levels: &mut [u8; 16384], masks: &mut [u16; 2560]) -> Carried
+    requires { ⌜ c .state .line + length (now script) < 18446744073709551616 ⌝ }
+    ensures { λ r. ⌜ keptOf r (now (levels .exit)) (now (masks .exit)) ≡ after (keptOf c (now (levels .entry)) (now (masks .entry))) (linesOf (now (script .entry))) ⌝ }
 {
-    let r = take_lines(
-        s,
-        script,
-        values,
-        levels,
-        masks,
-        above,
-        left,
-        above_uv,
-        left_uv,
-    );
+    let r = take_lines(c, script, levels, masks);
     let at = r.at;
-    let k = r.state;
+    let k = r.carried;
     if at < script.len() {
-        return step(
-            k,
-            &script[at..],
-            values,
-            levels,
-            masks,
-            above,
-            left,
-            above_uv,
-            left_uv,
-        );
+        return step(k, &script[at..], levels, masks);
     }
     k
 }
@@ -171,26 +128,11 @@ pub fn put_text(
 pub fn list(script: &[u8], out: &mut [u8]) -> usize
     ensures { λ r. ⌜ ListAnswer (now (script .entry)) r (now (out .entry)) (now (out .exit)) ⌝ }
 {
-    let mut values = [0u8; 64];
     let mut levels = [0u8; 16384];
     let mut masks = [0u16; 2560];
-    let mut above = [LUMA_START; 64];
-    let mut left = [LUMA_START; 64];
-    let mut above_uv = [CHROMA_START; 64];
-    let mut left_uv = [CHROMA_START; 64];
-    let s = run(
-        start(),
-        script,
-        &mut values,
-        &mut levels,
-        &mut masks,
-        &mut above,
-        &mut left,
-        &mut above_uv,
-        &mut left_uv,
-    );
+    let k = run(start(), script, &mut levels, &mut masks);
     let mut text = [0u8; 393255];
-    let n = put_text(s, &levels, &masks, &mut text);
+    let n = put_text(k.state, &levels, &masks, &mut text);
     if n <= out.len() {
         put_bytes(out, 0, &text[..n]);
     }

@@ -3,13 +3,12 @@ use mathlib.Core.List.{List, [], _∷_, _++_, append-assoc, append-nil}
 use mathlib.Core.Path.{_≡_, refl, sym, ap, ap₂, subst, _∙_}
 use Prim.Native.Nat.{ℕ, zero, suc, _+_, _-_, _<_, _≤_}
 use native.Mathlib.Omega.{arith}
-use lib.ListN.{length, take, drop, replicate, length-append, length-take, length-drop}
+use lib.ListN.{length, take, drop, length-append, length-take, length-drop}
 use lib.Seq.{take-nil, take-add, drop-drop, length-take-le}
 use Rattle.io.specs.Counts.{Counts}
 use Rattle.list_text.specs.Text.{Put}
-use Rattle.list_steps.specs.declared.State.{State}
-use Rattle.list_steps.specs.Steps.{Kept, keptOf, stateOf}
-use Rattle.list_call.specs.Listing.{linesOf, after, outputOf, Taken, Texted}
+use Rattle.list_steps.specs.Steps.{Kept}
+use Rattle.list_call.specs.Listing.{linesOf, start, after, outputOf, Taken, Texted}
 use Rattle.list_call.proofs.Texts.{from-start, text-put}
 use Rattle.list_reading.specs.Reading.{rest, last, Safe, Reads, Roomy, Adds, Reached, Ended, ListedAnswer}
 
@@ -135,19 +134,13 @@ module _ (k : Kept) (at held read : ℕ) (b : List ℕ) (safe : Safe (k .state .
 
 -- ---- all parts
 
-pub reached-none : (s : State) (values levels masks above left above-uv left-uv : List ℕ) (total : ℕ) (b : List ℕ) → s ≡ stateOf 0 0 0 0 0 0
-    → Reached (keptOf (stateOf 0 0 0 0 0 0) values levels masks above left above-uv left-uv) total (keptOf s values levels masks above left above-uv left-uv) 0 0 0 b
-reached-none s values levels masks above left above-uv left-uv total b e =
+pub reached-none : (k : Kept) (total : ℕ) (b : List ℕ) → k .state .line ≡ 0 → Reached k total k 0 0 0 b
+reached-none k total b e =
     record {
-      safe = record { part = omega arith; room = omega arith; fewer = omega arith; lines = omega (arith, ap (λ (x : State). x .line) e) };
+      safe = record { part = omega arith; room = omega arith; fewer = omega arith; lines = omega (arith, e) };
       most = omega arith;
       bytes = [];
-      reads =
-          record {
-            counted = refl;
-            whole = λ _. (refl, refl);
-            same = λ t. ap (λ (x : State). after (keptOf x values levels masks above left above-uv left-uv) (linesOf t)) (sym e);
-          };
+      reads = record { counted = refl; whole = λ _. (refl, refl); same = λ t. refl };
     }
 
 pub reached-more : (start : Kept) (total : ℕ) (k : Kept) (at held read : ℕ) (b : List ℕ) (m : Kept) (at' held' read' : ℕ) (c : List ℕ) (most : ℕ) → Reached start total k at held read b
@@ -185,9 +178,8 @@ put-counts l s k e p =
     let f : e ≤ length k = omega (arith, p .next, ap length (p .stored), length-append s (drop (0 + length s) l)) in
     (f, sym (length-take-le e k f))
 
-pub answered : (total : ℕ) (k : Kept) (read : ℕ) (b t u : List ℕ) (n : ℕ)
-    → Ended (keptOf (stateOf 0 0 0 0 0 0) (replicate 64 0) (replicate 16384 0) (replicate 2560 0) (replicate 64 2) (replicate 64 2) (replicate 64 1) (replicate 64 1)) total k read b
+pub answered : (total : ℕ) (s k : Kept) (read : ℕ) (b t u : List ℕ) (n : ℕ) → s ≡ start → Ended s total k read b
     → Texted (k .state) (k .memory .levels) (k .memory .masks) t u n → ListedAnswer total read b n t u
-answered total k read b t u n e h =
-    let p = text-put (e .bytes) k (from-start (stateOf 0 0 0 0 0 0) k (e .bytes) refl (e .kept)) h in
+answered total s k read b t u n z e h =
+    let p = text-put (e .bytes) k (from-start s k (e .bytes) z (e .kept)) h in
     record { bytes = e .bytes; all = e .all; listing = p; fits = put-counts t (outputOf (e .bytes)) u n p }

@@ -1,16 +1,14 @@
 // Standard input read in parts, and its listing.
 use libc::STDIN_FILENO;
-use list_call::CHROMA_START;
-use list_call::LUMA_START;
 use list_call::put_text;
 use list_call::run;
 use list_call::start;
 use list_call::take_lines;
-use list_steps::State;
+use list_steps::Carried;
 ghost use mathlib.Core.Path.{_≡_};
 ghost use Prim.Native.Nat.{_+_, _<_, _≤_};
 ghost use lib.ListN.{length, take, drop};
-ghost use Rattle.list_steps.specs.Steps.{stateOf, keptOf};
+ghost use Rattle.list_steps.specs.Steps.{keptOf};
 ghost use Rattle.list_reading.specs.Reading.{Safe, Roomy, Adds, Reached, Ended, ListedAnswer};
 
 // The bytes of one read, and whether it failed.
@@ -21,16 +19,16 @@ struct Got {
 
 // The buffer's first `held` bytes were read, of which those before `at` are taken; `read` bytes in all.
 struct Progress {
-    state: State,
+    carried: Carried,
     at: usize,
     held: usize,
     read: usize,
     failed: bool,
 }
 
-// The state after all lines, the last with its end or without; the bytes read; whether a read failed.
+// What is carried after all lines, the last with its end or without; the bytes read; whether a read failed.
 struct Script {
-    state: State,
+    carried: Carried,
     read: usize,
     failed: bool,
 }
@@ -89,40 +87,22 @@ fn part(
     p: Progress,
     most: usize,
     buf: &mut [u8],
-    values: &mut [u8; 64],
     levels: &mut [u8; 16384],
     masks: &mut [u16; 2560],
-    above: &mut [u8; 64],
-    left: &mut [u8; 64],
-    above_uv: &mut [u8; 64],
-    left_uv: &mut [u8; 64],
 ) -> Progress
-    requires { ⌜ Safe (p .state .line) (p .at) (p .held) (p .read) (length (now buf)) × (p .read + most < 18446744073709551616) ⌝ }
-    ensures { λ r. ⌜ Adds
-        (keptOf (p .state) (now (values .entry)) (now (levels .entry)) (now (masks .entry)) (now (above .entry)) (now (left .entry)) (now («above_uv» .entry)) (now («left_uv» .entry)))
-        (p .at) (p .held) (p .read) (now (buf .entry))
-        (keptOf (r .state) (now (values .exit)) (now (levels .exit)) (now (masks .exit)) (now (above .exit)) (now (left .exit)) (now («above_uv» .exit)) (now («left_uv» .exit)))
-        (r .at) (r .held) (r .read) (now (buf .exit)) most ⌝ }
+    requires { ⌜ Safe (p .carried .state .line) (p .at) (p .held) (p .read) (length (now buf)) × (p .read + most < 18446744073709551616) ⌝ }
+    ensures { λ r. ⌜ Adds (keptOf (p .carried) (now (levels .entry)) (now (masks .entry))) (p .at) (p .held) (p .read) (now (buf .entry))
+        (keptOf (r .carried) (now (levels .exit)) (now (masks .exit))) (r .at) (r .held) (r .read) (now (buf .exit)) most ⌝ }
 {
     let gone = make_room(buf, p.at, p.held);
     let at = p.at - gone;
     let held = p.held - gone;
     let got = read_more(buf, held, most);
     let e = held + got.n;
-    let r = take_lines(
-        p.state,
-        &buf[at..e],
-        values,
-        levels,
-        masks,
-        above,
-        left,
-        above_uv,
-        left_uv,
-    );
-    let k = r.state;
+    let r = take_lines(p.carried, &buf[at..e], levels, masks);
+    let k = r.carried;
     Progress {
-        state: k,
+        carried: k,
         at: at + r.at,
         held: e,
         read: p.read + got.n,
@@ -132,25 +112,19 @@ fn part(
 
 // Reads to the end of the input, to `total` bytes or to a refused line.
 fn parts(
+    c: Carried,
     total: usize,
     most: usize,
     buf: &mut [u8],
-    values: &mut [u8; 64],
     levels: &mut [u8; 16384],
     masks: &mut [u16; 2560],
-    above: &mut [u8; 64],
-    left: &mut [u8; 64],
-    above_uv: &mut [u8; 64],
-    left_uv: &mut [u8; 64],
 ) -> Progress
-    ensures { λ r. ⌜ Reached
-        (keptOf (stateOf 0 0 0 0 0 0) (now (values .entry)) (now (levels .entry)) (now (masks .entry)) (now (above .entry)) (now (left .entry)) (now («above_uv» .entry)) (now («left_uv» .entry)))
-        total
-        (keptOf (r .state) (now (values .exit)) (now (levels .exit)) (now (masks .exit)) (now (above .exit)) (now (left .exit)) (now («above_uv» .exit)) (now («left_uv» .exit)))
-        (r .at) (r .held) (r .read) (now (buf .exit)) ⌝ }
+    requires { ⌜ c .state .line ≡ 0 ⌝ }
+    ensures { λ r. ⌜ Reached (keptOf c (now (levels .entry)) (now (masks .entry))) total
+        (keptOf (r .carried) (now (levels .exit)) (now (masks .exit))) (r .at) (r .held) (r .read) (now (buf .exit)) ⌝ }
 {
     let mut p = Progress {
-        state: start(),
+        carried: c,
         at: 0,
         held: 0,
         read: 0,
@@ -158,19 +132,9 @@ fn parts(
     };
     let mut read = 0;
     while read < total {
-        p = part(
-            p,
-            least(most, total - read),
-            buf,
-            values,
-            levels,
-            masks,
-            above,
-            left,
-            above_uv,
-            left_uv,
-        );
-        let s = p.state;
+        p = part(p, least(most, total - read), buf, levels, masks);
+        let k = p.carried;
+        let s = k.state;
         if p.read == read {
             return p;
         }
@@ -183,50 +147,23 @@ fn parts(
 }
 
 fn read_script(
+    c: Carried,
     total: usize,
     most: usize,
     buf: &mut [u8],
-    values: &mut [u8; 64],
     levels: &mut [u8; 16384],
     masks: &mut [u16; 2560],
-    above: &mut [u8; 64],
-    left: &mut [u8; 64],
-    above_uv: &mut [u8; 64],
-    left_uv: &mut [u8; 64],
 ) -> Script
-    ensures { λ r. ⌜ Ended
-        (keptOf (stateOf 0 0 0 0 0 0) (now (values .entry)) (now (levels .entry)) (now (masks .entry)) (now (above .entry)) (now (left .entry)) (now («above_uv» .entry)) (now («left_uv» .entry)))
-        total
-        (keptOf (r .state) (now (values .exit)) (now (levels .exit)) (now (masks .exit)) (now (above .exit)) (now (left .exit)) (now («above_uv» .exit)) (now («left_uv» .exit)))
-        (r .read) (now (buf .exit)) ⌝ }
+    requires { ⌜ c .state .line ≡ 0 ⌝ }
+    ensures { λ r. ⌜ Ended (keptOf c (now (levels .entry)) (now (masks .entry))) total
+        (keptOf (r .carried) (now (levels .exit)) (now (masks .exit))) (r .read) (now (buf .exit)) ⌝ }
 {
-    let p = parts(
-        total,
-        most,
-        buf,
-        values,
-        levels,
-        masks,
-        above,
-        left,
-        above_uv,
-        left_uv,
-    );
+    let p = parts(c, total, most, buf, levels, masks);
     let at = p.at;
     let held = p.held;
-    let s = run(
-        p.state,
-        &buf[at..held],
-        values,
-        levels,
-        masks,
-        above,
-        left,
-        above_uv,
-        left_uv,
-    );
+    let k = run(p.carried, &buf[at..held], levels, masks);
     Script {
-        state: s,
+        carried: k,
         read: p.read,
         failed: p.failed,
     }
@@ -237,28 +174,13 @@ fn read_script(
 pub fn listed(total: usize, most: usize, buf: &mut [u8], text: &mut [u8; 393255]) -> Answer
     ensures { λ r. ⌜ ListedAnswer total (r .read) (now (buf .exit)) (r .stored) (now (text .entry)) (now (text .exit)) ⌝ }
 {
-    let mut values = [0u8; 64];
     let mut levels = [0u8; 16384];
     let mut masks = [0u16; 2560];
-    let mut above = [LUMA_START; 64];
-    let mut left = [LUMA_START; 64];
-    let mut above_uv = [CHROMA_START; 64];
-    let mut left_uv = [CHROMA_START; 64];
-    let r = read_script(
-        total,
-        most,
-        buf,
-        &mut values,
-        &mut levels,
-        &mut masks,
-        &mut above,
-        &mut left,
-        &mut above_uv,
-        &mut left_uv,
-    );
+    let r = read_script(start(), total, most, buf, &mut levels, &mut masks);
+    let k = r.carried;
     Answer {
         read: r.read,
-        stored: put_text(r.state, &levels, &masks, text),
+        stored: put_text(k.state, &levels, &masks, text),
         failed: r.failed,
     }
 }

@@ -1,7 +1,8 @@
 -- A script, line after line: document 01, "Edge listing".
---   form                 the number that stands for `form`
+--   form                 stands for the word `form` where a number stands, and is none
 --   longest, said s      the bytes of the longest line; what the line s says
---   Kept, kept, keptOf   what is kept from line to line: the frame, how far the script is, the level values and the lent memory
+--   Kept, kept           what is kept from line to line: the frame, how far the script is, the level values and the lent memory
+--   withState, keptOf    what goes by value with another state; what is kept, of it and of the two lent lists
 --   stateOf, counted     a state of its fields; with one line more
 --   refusedBy, refused   the line is refused with the number n
 --   sideOk, depthOk, frameNumber     of a frame line; sides are 1 to 256 samples
@@ -32,9 +33,10 @@ use Rattle.list_script.specs.Script.{lineOf}
 use Rattle.list_script.specs.declared.ScriptLine.{ScriptLine}
 use Rattle.list_script.specs.declared.ScriptLine.the-variants.{Frame, Level, Block as BlockLine, Form}
 use Rattle.list_steps.specs.declared.State.{State}
+use Rattle.list_steps.specs.declared.Carried.{Carried}
 
 abbrev pub form : ℕ
-form = 13
+form = 1000
 
 abbrev pub longest : ℕ
 longest = 65535
@@ -50,9 +52,12 @@ pub record Kept : Type 0 where
 abbrev pub kept : State → List ℕ → Lent → Kept
 kept s values m = record { state = s; values = values; memory = m }
 
-abbrev pub keptOf : State → List ℕ → List ℕ → List ℕ → List ℕ → List ℕ → List ℕ → List ℕ → Kept
-keptOf s values levels masks above left above-uv left-uv =
-    kept s values (lent levels masks above left above-uv left-uv)
+abbrev pub withState : Carried → State → Carried
+withState c s =
+    record { state = s; values = c .values; above = c .above; left = c .left; «above_uv» = c .«above_uv»; «left_uv» = c .«left_uv» }
+
+abbrev pub keptOf : Carried → List ℕ → List ℕ → Kept
+keptOf c levels masks = kept (c .state) (c .values) (lent levels masks (c .above) (c .left) (c .«above_uv») (c .«left_uv»))
 
 abbrev pub stateOf : ℕ → ℕ → ℕ → ℕ → ℕ → ℕ → State
 stateOf line phase number width height layout =

@@ -1,19 +1,20 @@
 // A frame line.
-use crate::FORM;
+use crate::Carried;
 use crate::State;
-use crate::refused_by;
+use crate::refused;
+use crate::with_state;
 use units::frame::superblock_ok;
 use units::layout::layout_ok;
 use units::numbers::DEPTH;
 use units::numbers::DONE;
+use units::numbers::FORM;
 use units::numbers::SHAPE;
 use units::numbers::SHARPNESS;
 ghost use mathlib.Core.List.{List};
 ghost use mathlib.Core.Path.{_≡_};
 ghost use Prim.Native.Nat.{ℕ};
-ghost use Rattle.block.specs.Block.{Lent};
 ghost use Rattle.list_script.specs.declared.ScriptLine.the-variants.{Frame};
-ghost use Rattle.list_steps.specs.Steps.{sideOk, depthOk, frameNumber, kept, taken};
+ghost use Rattle.list_steps.specs.Steps.{sideOk, depthOk, frameNumber, keptOf, taken};
 
 fn side_ok(n: u32) -> bool
     ensures { λ r. ⌜ r ≡ sideOk n ⌝ }
@@ -52,29 +53,33 @@ fn frame_number(
 }
 
 pub fn frame_line(
-    s: State,
+    c: Carried,
     width: u32,
     height: u32,
     layout: u32,
     depth: u32,
     superblock: u32,
     sharpness: u32,
-) -> State
-    ensures { λ r. ⌜ ((v : List ℕ) (m : Lent) → kept r v m ≡ taken (kept s v m) (Frame width height layout depth superblock sharpness)) ⌝ }
+) -> Carried
+    ensures { λ r. ⌜ ((levels masks : List ℕ) → keptOf r levels masks ≡ taken (keptOf c levels masks) (Frame width height layout depth superblock sharpness)) ⌝ }
 {
+    let s = c.state;
     if s.phase != 0 {
-        return refused_by(s, FORM);
+        return refused(c, FORM);
     }
     let n = frame_number(width, height, layout, depth, superblock, sharpness);
     if n != DONE {
-        return refused_by(s, n);
+        return refused(c, n);
     }
-    State {
-        line: s.line,
-        phase: 1,
-        number: DONE,
-        width,
-        height,
-        layout,
-    }
+    with_state(
+        c,
+        State {
+            line: s.line,
+            phase: 1,
+            number: DONE,
+            width,
+            height,
+            layout,
+        },
+    )
 }

@@ -1,20 +1,22 @@
 // A level line.
-use crate::FORM;
+use crate::Carried;
 use crate::State;
-use crate::refused_by;
+use crate::refused;
+use crate::with_state;
 use levels::levels;
 use units::numbers::DONE;
+use units::numbers::FORM;
 use units::numbers::LEVEL;
 ghost use mathlib.Core.Bool.{cond};
+ghost use mathlib.Core.List.{List};
 ghost use mathlib.Core.Path.{_≡_};
 ghost use lib.Dec.{eqb};
-ghost use Prim.Native.Nat.{_≤_};
+ghost use Prim.Native.Nat.{ℕ, _≤_};
 ghost use lib.ListN.{length, take};
 ghost use Rattle.loops.specs.Table.{tabulate};
 ghost use Rattle.levels.specs.Levels.{levelsNumber, byteAt};
-ghost use Rattle.block.specs.Block.{Lent};
 ghost use Rattle.list_script.specs.declared.ScriptLine.the-variants.{Level};
-ghost use Rattle.list_steps.specs.Steps.{bases, kept, taken};
+ghost use Rattle.list_steps.specs.Steps.{bases, keptOf, taken};
 
 fn copy_first(values: &mut [u8], all: &[u8])
     requires { ⌜ (length (now values) ≡ 64) × (64 ≤ length (now all)) ⌝ }
@@ -48,22 +50,27 @@ fn level_values(values: &mut [u8; 64], layout: u32, columns: u32, rows: u32, u: 
     DONE
 }
 
-pub fn level_line(s: State, values: &mut [u8; 64], columns: u32, rows: u32, u: u32, v: u32) -> State
-    ensures { λ r. ⌜ ((m : Lent) → kept r (now (values .exit)) m ≡ taken (kept s (now (values .entry)) m) (Level columns rows u v)) ⌝ }
+pub fn level_line(c: Carried, columns: u32, rows: u32, u: u32, v: u32) -> Carried
+    ensures { λ r. ⌜ ((levels masks : List ℕ) → keptOf r levels masks ≡ taken (keptOf c levels masks) (Level columns rows u v)) ⌝ }
 {
+    let s = c.state;
     if s.phase != 1 {
-        return refused_by(s, FORM);
+        return refused(c, FORM);
     }
-    let n = level_values(values, s.layout, columns, rows, u, v);
+    let mut d = c;
+    let n = level_values(&mut d.values, s.layout, columns, rows, u, v);
     if n != DONE {
-        return refused_by(s, n);
+        return refused(c, n);
     }
-    State {
-        line: s.line,
-        phase: 2,
-        number: DONE,
-        width: s.width,
-        height: s.height,
-        layout: s.layout,
-    }
+    with_state(
+        d,
+        State {
+            line: s.line,
+            phase: 2,
+            number: DONE,
+            width: s.width,
+            height: s.height,
+            layout: s.layout,
+        },
+    )
 }

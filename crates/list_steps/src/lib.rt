@@ -8,14 +8,13 @@ use frame::frame_line;
 use level::level_line;
 use list_script::ScriptLine;
 use list_script::read_line;
+use units::numbers::FORM;
 ghost use mathlib.Core.Path.{_≡_};
 ghost use Prim.Native.Nat.{_<_};
 ghost use Rattle.list_steps.specs.Promises.{Promises};
-ghost use Rattle.list_steps.specs.Steps.{said, refusedBy, counted, keptOf, stepOf};
+ghost use Rattle.list_steps.specs.Steps.{said, refusedBy, counted, withState, keptOf, stepOf};
 
 const LONGEST: usize = 65535;
-
-const FORM: u32 = 13;
 
 // phase is 0 before the frame line, 1 before the level line, 2 after it; number is 0 until a line is refused.
 pub struct State {
@@ -27,6 +26,16 @@ pub struct State {
     pub layout: u32,
 }
 
+// What goes from line to line by value: the state, the level values, the contexts of luma and of chroma. Level bytes and masks are lent.
+pub struct Carried {
+    pub state: State,
+    pub values: [u8; 64],
+    pub above: [u8; 64],
+    pub left: [u8; 64],
+    pub above_uv: [u8; 64],
+    pub left_uv: [u8; 64],
+}
+
 fn said(line: &[u8]) -> ScriptLine
     ensures { λ r. ⌜ r ≡ said (now (line .entry)) ⌝ }
 {
@@ -36,53 +45,58 @@ fn said(line: &[u8]) -> ScriptLine
     read_line(line)
 }
 
-fn counted(s: State) -> State
-    requires { ⌜ s .line < 18446744073709551615 ⌝ }
-    ensures { λ r. ⌜ r ≡ counted s ⌝ }
+fn with_state(c: Carried, s: State) -> Carried
+    ensures { λ r. ⌜ r ≡ withState c s ⌝ }
 {
-    State {
-        line: s.line + 1,
-        phase: s.phase,
-        number: s.number,
-        width: s.width,
-        height: s.height,
-        layout: s.layout,
-    }
+    let mut d = c;
+    d.state = s;
+    d
 }
 
-fn refused_by(s: State, number: u32) -> State
-    ensures { λ r. ⌜ r ≡ refusedBy s number ⌝ }
+fn counted(c: Carried) -> Carried
+    requires { ⌜ c .state .line < 18446744073709551615 ⌝ }
+    ensures { λ r. ⌜ r ≡ withState c (counted (c .state)) ⌝ }
 {
-    State {
-        line: s.line,
-        phase: s.phase,
-        number,
-        width: s.width,
-        height: s.height,
-        layout: s.layout,
-    }
+    let s = c.state;
+    with_state(
+        c,
+        State {
+            line: s.line + 1,
+            phase: s.phase,
+            number: s.number,
+            width: s.width,
+            height: s.height,
+            layout: s.layout,
+        },
+    )
 }
 
-pub fn step(
-    s: State,
-    line: &[u8],
-    values: &mut [u8; 64],
-    levels: &mut [u8; 16384],
-    masks: &mut [u16; 2560],
-    above: &mut [u8; 64],
-    left: &mut [u8; 64],
-    above_uv: &mut [u8; 64],
-    left_uv: &mut [u8; 64],
-) -> State
-    requires { ⌜ s .line < 18446744073709551615 ⌝ }
-    ensures { λ r. ⌜ keptOf r (now (values .exit)) (now (levels .exit)) (now (masks .exit)) (now (above .exit)) (now (left .exit)) (now («above_uv» .exit)) (now («left_uv» .exit))
-        ≡ stepOf (keptOf s (now (values .entry)) (now (levels .entry)) (now (masks .entry)) (now (above .entry)) (now (left .entry)) (now («above_uv» .entry)) (now («left_uv» .entry)))
-        (now (line .entry)) ⌝ }
+fn refused(c: Carried, number: u32) -> Carried
+    ensures { λ r. ⌜ r ≡ withState c (refusedBy (c .state) number) ⌝ }
 {
+    let s = c.state;
+    with_state(
+        c,
+        State {
+            line: s.line,
+            phase: s.phase,
+            number,
+            width: s.width,
+            height: s.height,
+            layout: s.layout,
+        },
+    )
+}
+
+pub fn step(c: Carried, line: &[u8], levels: &mut [u8; 16384], masks: &mut [u16; 2560]) -> Carried
+    requires { ⌜ c .state .line < 18446744073709551615 ⌝ }
+    ensures { λ r. ⌜ keptOf r (now (levels .exit)) (now (masks .exit)) ≡ stepOf (keptOf c (now (levels .entry)) (now (masks .entry))) (now (line .entry)) ⌝ }
+{
+    let s = c.state;
     if s.number != 0 {
-        return s;
+        return c;
     }
-    let t = counted(s);
+    let d = counted(c);
     let l = said(line);
     match l {
         ScriptLine::Frame {
@@ -92,13 +106,13 @@ pub fn step(
             depth,
             superblock,
             sharpness,
-        } => frame_line(t, width, height, layout, depth, superblock, sharpness),
+        } => frame_line(d, width, height, layout, depth, superblock, sharpness),
         ScriptLine::Level {
             columns,
             rows,
             u,
             v,
-        } => level_line(t, values, columns, rows, u, v),
+        } => level_line(d, columns, rows, u, v),
         ScriptLine::Block {
             x,
             y,
@@ -106,23 +120,8 @@ pub fn step(
             tx,
             chroma,
             uvtx,
-        } => block_line(
-            t,
-            values,
-            levels,
-            masks,
-            above,
-            left,
-            above_uv,
-            left_uv,
-            x,
-            y,
-            size,
-            tx,
-            chroma,
-            uvtx,
-        ),
-        ScriptLine::Form => refused_by(t, FORM),
+        } => block_line(d, levels, masks, x, y, size, tx, chroma, uvtx),
+        ScriptLine::Form => refused(d, FORM),
     }
 }
 

@@ -3,7 +3,8 @@ use borrow.Author.Needs.{needs}
 use mathlib.Core.Path.{refl, sym, ap}
 use native.Mathlib.Omega.{arith}
 use lib.Seq.{length-take-le}
-use Rattle.list_steps.specs.declared.State.{State}
+use Rattle.list_steps.specs.Steps.{Kept}
+use Rattle.list_call.proofs.Runs.{start-line}
 use Rattle.list_call.proofs.Texts.{in-room, from-start, listed, unlisted}
 use Rattle.list_call.proofs.list.Statement.{statement}
 use Rattle.list_call.proofs.list.Tie as tie
@@ -12,7 +13,7 @@ start-requires : tie.Need-start-requires
 start-requires c κs = search needs
 
 run-requires : tie.Need-run-requires
-run-requires c κs = omega (arith, ap (λ (s : State). s .line) (c .before .before .before .before .before .before .before .start .ensures))
+run-requires c κs = omega (arith, ap (λ (k : Kept). k .state .line) (c .before .before .start .ensures), start-line)
 
 put-text-requires : tie.Need-put-text-requires
 put-text-requires c κs = search needs
@@ -39,16 +40,17 @@ returns c =
     let c₅ = c .before .before .before .before .before in
     let c₆ = c₅ .before in
     let c₁₀ = c₆ .before .before .before .before in
-    let c₁₈ = c₁₀ .before .before .before .before .before .before .before .before in
-    let c₂₁ = c₁₈ .before .before .before in
-    listed _ _ (from-start _ _ (c₂₁ .args .script .now) (c₁₈ .start .ensures) (c₁₀ .run .ensures)) (c₆ .put-text .ensures) _ _ _ (c₅ .if1 .taken) (c .before .before .put-bytes .ensures)
+    let c₁₃ = c₁₀ .before .before .before in
+    let g = c₁₃ .before .before .before .args in
+    listed _ _ (from-start _ _ (g .script .now) (c₁₃ .start .ensures) (c₁₀ .run .ensures)) (c₆ .put-text .ensures) _ _ _ (c₅ .if1 .taken)
+    (c .before .before .put-bytes .ensures)
 
 returns-2 : tie.Need-returns-2
 returns-2 c =
     let c₅ = c .before .before .before .before .before in
-    let c₁₃ = c₅ .before .before .before .before .before .before .before .before in
-    let c₁₆ = c₁₃ .before .before .before in
-    unlisted _ _ (from-start _ _ (c₁₆ .args .script .now) (c₁₃ .start .ensures) (c₅ .run .ensures)) (c .before .put-text .ensures) _ (c .if1 .left)
+    let c₈ = c₅ .before .before .before in
+    let g = c₈ .before .before .before .args in
+    unlisted _ _ (from-start _ _ (g .script .now) (c₈ .start .ensures) (c₅ .run .ensures)) (c .before .put-text .ensures) _ (c .if1 .left)
 
 pub list-spec : {M : Type 1} → statement M
 list-spec =

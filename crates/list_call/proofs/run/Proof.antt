@@ -21,9 +21,8 @@ step-requires c κs = search needs
 
 returns : tie.Need-returns
 returns c =
-    let c₉ = c .before .before .before .before .before .before .before .before .before in
-    let c₁₁ = c₉ .before .before in
-    run-last _ _ _ _ _ (c₁₁ .take-lines .ensures) (c₉ .if1 .taken) (c .step .ensures)
+    let c₄ = c .before .before .before .before in
+    run-last _ _ _ _ _ (c₄ .before .before .take-lines .ensures) (c₄ .if1 .taken) (c .step .ensures)
 
 returns-2 : tie.Need-returns-2
 returns-2 c = run-whole _ _ _ _ (c .before .before .take-lines .ensures) (c .if1 .left)

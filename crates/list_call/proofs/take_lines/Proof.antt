@@ -9,11 +9,10 @@ use Rattle.list_call.proofs.take_lines.Statement.{statement}
 use Rattle.list_call.proofs.take_lines.Tie as tie
 
 abbrev Inv-loop : tie.InvT-loop
-Inv-loop part values₀ levels₀ masks₀ above₀ left₀ above-uv₀ left-uv₀ k₀ at₀ e₀ values levels masks above left above-uv left-uv k at e =
-    Taking (keptOf k₀ values₀ levels₀ masks₀ above₀ left₀ above-uv₀ left-uv₀) part (keptOf k values levels masks above left above-uv left-uv) at e
+Inv-loop part levels₀ masks₀ k₀ at₀ e₀ levels masks k at e = Taking (keptOf k₀ levels₀ masks₀) part (keptOf k levels masks) at e
 
 abbrev μ-loop : tie.MeasureT-loop
-μ-loop part values₀ levels₀ masks₀ above₀ left₀ above-uv₀ left-uv₀ k₀ at₀ e₀ values levels masks above left above-uv left-uv k at e = length part - at
+μ-loop part levels₀ masks₀ k₀ at₀ e₀ levels masks k at e = length part - at
 
 end-of-requires : tie.Need-end-of-requires Inv-loop μ-loop
 end-of-requires c κs = search needs
@@ -32,11 +31,8 @@ part-step-end c = search needs
 
 step-requires : tie.Need-step-requires Inv-loop μ-loop
 step-requires c κs =
-    omega (
-      arith,
-      c .before .before .before .before .before .before .before .before .before .loop .inv .line,
-      c .before .before .before .before .before .before .before .before .before .loop .inv .at-end,
-    )
+    let i = c .before .before .before .before .loop .inv in
+    omega (arith, i .line, i .at-end)
 
 add-at : tie.Need-add-at Inv-loop μ-loop
 add-at c = search needs
@@ -49,9 +45,8 @@ loop-less c = search needs
 
 loop-again : tie.Need-loop-again Inv-loop μ-loop
 loop-again c =
-    let c₁₀ = c .before .before .before .before .before .before .before .before .before .before in
-    let c₁₁ = c₁₀ .before in
-    taking-step _ _ _ _ _ _ _ (c₁₁ .loop .inv) (c₁₀ .loop-test .taken) (c .before .step .ensures) (c .end-of2 .ensures)
+    let c₅ = c .before .before .before .before .before in
+    taking-step _ _ _ _ _ _ _ (c₅ .before .loop .inv) (c₅ .loop-test .taken) (c .before .step .ensures) (c .end-of2 .ensures)
 
 returns : tie.Need-returns Inv-loop μ-loop
 returns c = taken-all _ _ _ _ _ (c .before .loop .inv) (c .loop-test .left)

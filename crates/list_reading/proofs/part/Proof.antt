@@ -34,41 +34,42 @@ part-take-lines-end c = search needs
 
 take-lines-requires : tie.Need-take-lines-requires
 take-lines-requires c κs =
-    let c₁₂ = c .before .before .before .before .before .before .before .before .before .before .before .before in
-    let c₁₈ = c₁₂ .before .before .before .before .before .before in
-    let c₂₁ = c₁₈ .before .before .before in
-    lines-fit _ _ _ _ _ _ _ _ _ (c₂₁ .pre .0) (c₁₈ .make-room .ensures .less) (c₁₂ .read-more .ensures .2) (c₂₁ .pre .1)
+    let c₇ = c .before .before .before .before .before .before .before in
+    let c₁₃ = c₇ .before .before .before .before .before .before in
+    let c₁₆ = c₁₃ .before .before .before in
+    lines-fit _ _ _ _ _ _ _ _ _ (c₁₆ .pre .0) (c₁₃ .make-room .ensures .less) (c₇ .read-more .ensures .2) (c₁₆ .pre .1)
+
+add-t18 : tie.Need-add-t18
+add-t18 c =
+    let c₁₀ = c .before .before .before .before .before .before .before .before .before .before in
+    let c₁₆ = c₁₀ .before .before .before .before .before .before in
+    let c₁₉ = c₁₆ .before .before .before in
+    record {
+      fits =
+          at-fits _ _ _ _ _ (c₁₉ .pre .0) (c₁₆ .make-room .last .0) _ (c₁₆ .make-room .kept .0) (c₁₆ .make-room .ensures) _ _ _ (c₁₀ .read-more .kept .0)
+          (c₁₀ .read-more .ensures) _ _ (c .before .before .take-lines .ensures) (c₁₉ .pre .1);
+    }
 
 add-t23 : tie.Need-add-t23
 add-t23 c =
-    let c₁₅ = c .before .before .before .before .before .before .before .before .before .before .before .before .before .before .before in
-    let c₂₁ = c₁₅ .before .before .before .before .before .before in
-    let c₂₄ = c₂₁ .before .before .before in
-    record {
-      fits =
-          at-fits _ _ _ _ _ (c₂₄ .pre .0) (c₂₁ .make-room .last .0) _ (c₂₁ .make-room .kept .0) (c₂₁ .make-room .ensures) _ _ _ (c₁₅ .read-more .kept .0)
-          (c₁₅ .read-more .ensures) _ _ (c .before .before .take-lines .ensures) (c₂₄ .pre .1);
-    }
-
-add-t33 : tie.Need-add-t33
-add-t33 c =
-    let c₁₇ = c .before .before .before .before .before .before .before .before .before .before .before .before .before .before .before .before .before in
-    let c₂₆ = c₁₇ .before .before .before .before .before .before .before .before .before in
-    record { fits = omega (arith, c₂₆ .pre .1, c₁₇ .read-more .ensures .2) }
+    let c₁₂ = c .before .before .before .before .before .before .before .before .before .before .before .before in
+    let c₂₁ = c₁₂ .before .before .before .before .before .before .before .before .before in
+    record { fits = omega (arith, c₂₁ .pre .1, c₁₂ .read-more .ensures .2) }
 
 same-length : tie.Need-same-length
 same-length c =
-    let c₁₇ = c .before .before .before .before .before .before .before .before .before .before .before .before .before .before .before .before .before in
-    let c₂₃ = c₁₇ .before .before .before .before .before .before in
-    c₁₇ .read-more .kept .0 ∙ c₂₃ .make-room .kept .0
+    let c₁₂ = c .before .before .before .before .before .before .before .before .before .before .before .before in
+    let c₁₈ = c₁₂ .before .before .before .before .before .before in
+    c₁₂ .read-more .kept .0 ∙ c₁₈ .make-room .kept .0
 
 returns : tie.Need-returns
 returns c =
     let c₄ = c .before .before .before .before in
-    let c₁₇ = c₄ .before .before .before .before .before .before .before .before .before .before .before .before .before in
-    let c₂₃ = c₁₇ .before .before .before .before .before .before in
-    let c₂₆ = c₂₃ .before .before .before in
-    adds _ _ _ _ _ (c₂₆ .pre .0) (c₂₃ .make-room .last .0) _ (c₂₃ .make-room .kept .0) (c₂₃ .make-room .ensures) _ _ _ (c₁₇ .read-more .kept .0) (c₁₇ .read-more .ensures) _ _ (c₄ .take-lines .ensures)
+    let c₁₂ = c₄ .before .before .before .before .before .before .before .before in
+    let c₁₈ = c₁₂ .before .before .before .before .before .before in
+    let c₂₁ = c₁₈ .before .before .before in
+    adds _ _ _ _ _ (c₂₁ .pre .0) (c₁₈ .make-room .last .0) _ (c₁₈ .make-room .kept .0) (c₁₈ .make-room .ensures) _ _ _ (c₁₂ .read-more .kept .0)
+    (c₁₂ .read-more .ensures) _ _ (c₄ .take-lines .ensures)
 
 pub part-spec : {M : Type 1} → statement M
 part-spec =
@@ -83,7 +84,7 @@ part-spec =
     part-take-lines-start
     part-take-lines-end
     take-lines-requires
+    add-t18
     add-t23
-    add-t33
     same-length
     returns)

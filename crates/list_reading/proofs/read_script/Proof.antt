@@ -24,8 +24,7 @@ same-length c = search needs
 
 returns : tie.Need-returns
 returns c =
-    let c₁₂ = c .before .before .before .before .before .before .before .before .before .before .before .before in
-    ended _ _ _ _ _ _ _ _ (c₁₂ .parts .ensures) (c .run .ensures)
+    ended _ _ _ _ _ _ _ _ (c .before .before .before .before .before .before .before .parts .ensures) (c .run .ensures)
 
 pub read-script-spec : {M : Type 1} → statement M
 read-script-spec =

@@ -1,16 +1,15 @@
 -- After a refusal nothing changes; else the line is counted, and each kind of line does what its own function ensures.
-use Rattle.list_steps.specs.Steps.{kept}
-use Rattle.list_steps.specs.declared.State.{State}
-use Rattle.block.specs.Block.{lent}
 use mathlib.Core.Path.{ap}
 use denote.Ref.{now}
+use Rattle.list_steps.specs.Steps.{Kept, keptOf}
+use Rattle.list_steps.specs.declared.Carried.{Carried}
 use Rattle.list_steps.proofs.Lines.{step-none, step-taken}
 use borrow.Author.Needs.{needs}
 use Rattle.list_steps.proofs.step.Statement.{statement}
 use Rattle.list_steps.proofs.step.Tie as tie
 
 returns : tie.Need-returns
-returns c = step-none (c .before .before .before .args .s) _ _ _ (c .if1 .taken)
+returns c = let a = c .before .before .before .before .args in step-none (keptOf (a .c) (now (a .levels)) (now (a .masks))) _ (c .if1 .taken)
 
 counted-requires : tie.Need-counted-requires
 counted-requires c κs = search needs
@@ -39,41 +38,44 @@ block-line-requires c κs = search needs
 enum-told : tie.Need-enum-told
 enum-told c = search needs
 
-refused-by-requires : tie.Need-refused-by-requires
-refused-by-requires c κs = search needs
+refused-requires : tie.Need-refused-requires
+refused-requires c κs = search needs
 
 returns-2 : tie.Need-returns-2
 returns-2 c =
     let d = c .before .before .before .before in
-    let a = d .before .before .before .before .before .args in
-    let m = lent (now (a .levels)) (now (a .masks)) (now (a .above)) (now (a .left)) (now (a .above-uv)) (now (a .left-uv)) in
-    step-taken (a .s) (now (a .values)) m (now (a .line)) (d .before .before .if1 .left) (d .before .counted .ensures) (d .said .ensures) (c .before .before .l .given .1)
-    (c .frame-line .ensures (now (a .values)) m)
+    let a = d .before .before .before .before .before .before .args in
+    let k : Carried → Kept = λ r. keptOf r (now (a .levels)) (now (a .masks)) in
+    step-taken (k (a .c)) (now (a .line)) (d .before .before .if1 .left) (ap k (d .before .counted .ensures)) (d .said .ensures)
+    (c .before .before .l .given .1)
+    (c .frame-line .ensures (now (a .levels)) (now (a .masks)))
 
 returns-3 : tie.Need-returns-3
 returns-3 c =
-    let d = c .before .before .before .before .before in
-    let a = d .before .before .before .before .before .args in
-    let m = lent (now (a .levels)) (now (a .masks)) (now (a .above)) (now (a .left)) (now (a .above-uv)) (now (a .left-uv)) in
-    step-taken (a .s) (now (a .values)) m (now (a .line)) (d .before .before .if1 .left) (d .before .counted .ensures) (d .said .ensures) (c .before .before .before .l2 .given .1)
-    (c .level-line .ensures m)
+    let d = c .before .before .before .before in
+    let a = d .before .before .before .before .before .before .args in
+    let k : Carried → Kept = λ r. keptOf r (now (a .levels)) (now (a .masks)) in
+    step-taken (k (a .c)) (now (a .line)) (d .before .before .if1 .left) (ap k (d .before .counted .ensures)) (d .said .ensures)
+    (c .before .before .l2 .given .1)
+    (c .level-line .ensures (now (a .levels)) (now (a .masks)))
 
 returns-4 : tie.Need-returns-4
 returns-4 c =
-    let d = c .before .before .before .before .before .before .before .before .before .before .before in
-    let a = d .before .before .before .before .before .args in
-    let m = lent (now (a .levels)) (now (a .masks)) (now (a .above)) (now (a .left)) (now (a .above-uv)) (now (a .left-uv)) in
-    step-taken (a .s) (now (a .values)) m (now (a .line)) (d .before .before .if1 .left) (d .before .counted .ensures) (d .said .ensures)
-    (c .before .before .before .before .before .before .before .before .before .l3 .given .1)
+    let d = c .before .before .before .before .before .before in
+    let a = d .before .before .before .before .before .before .args in
+    let k : Carried → Kept = λ r. keptOf r (now (a .levels)) (now (a .masks)) in
+    step-taken (k (a .c)) (now (a .line)) (d .before .before .if1 .left) (ap k (d .before .counted .ensures)) (d .said .ensures)
+    (c .before .before .before .before .l3 .given .1)
     (c .block-line .ensures)
 
 returns-5 : tie.Need-returns-5
 returns-5 c =
     let d = c .before .before .before in
-    let a = d .before .before .before .before .before .args in
-    let m = lent (now (a .levels)) (now (a .masks)) (now (a .above)) (now (a .left)) (now (a .above-uv)) (now (a .left-uv)) in
-    step-taken (a .s) (now (a .values)) m (now (a .line)) (d .before .before .if1 .left) (d .before .counted .ensures) (d .said .ensures) (c .before .enum-told .given .1)
-    (ap (λ (r : State). kept r (now (a .values)) m) (c .refused-by .ensures))
+    let a = d .before .before .before .before .before .before .args in
+    let k : Carried → Kept = λ r. keptOf r (now (a .levels)) (now (a .masks)) in
+    step-taken (k (a .c)) (now (a .line)) (d .before .before .if1 .left) (ap k (d .before .counted .ensures)) (d .said .ensures)
+    (c .before .enum-told .given .1)
+    (ap k (c .refused .ensures))
 
 pub step-spec : {M : Type 1} → statement M
 step-spec =
@@ -89,7 +91,7 @@ step-spec =
     enum-known-l-3
     block-line-requires
     enum-told
-    refused-by-requires
+    refused-requires
     returns-2
     returns-3
     returns-4
