@@ -1,4 +1,3 @@
-pub mod Ints
 pub mod Bias
 pub mod Steps
 pub mod Range

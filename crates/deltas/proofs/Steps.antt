@@ -1,19 +1,17 @@
 -- What the functions compute, in the standard's words: the range test, the clip, and a delta that is added once or twice, each by turning integers into differences of naturals.
 use mathlib.Core.Bool.{true, _||_}
-use mathlib.Core.Logic.{by-cases}
 use mathlib.Core.Path.{_≡_, refl, _∙_, ap, ap₂}
-use Prim.Native.Nat.{ℕ, _+_, _-_, _*_, _/_, _<_, _≤_}
-use native.Mathlib.Decide.{ℕ-discrete}
+use Prim.Native.Nat.{ℕ, _+_, _-_, _*_, _/_, _^_, _<_, _≤_}
+use native.Mathlib.Nat.{mul-add}
 use native.Mathlib.Omega.{arith}
 use borrow.Author.Tests.{lt-ltb, le-ltb, eq-eqb, ne-eqb}
 use lib.Dec.{ltb}
-use lib.IntN.{ℤ, pos, negℤ, subℕ, _+ℤ_}
+use lib.IntN.{ℤ, pos, negℤ, subℕ, _+ℤ_, +ℤ-comm, *ℤ-comm}
 use lib.Signed.{ltZ}
 use Rattle.standard.specs.Math.{Clip3}
 use Rattle.standard.specs.Level.{baseFilterLevel, lvlSeg, lvlDelta, shl, nShift}
 use Rattle.deltas.specs.Deltas.{on, outside}
-use Rattle.loops.proofs.Ints.{is-neg, is-pos, sub-eq, pos-sub, neg-pos, add-sub, lt-sub}
-use Rattle.deltas.proofs.Ints.{plus-sub, sub-plus, times-one, times-two}
+use Rattle.loops.proofs.Ints.{is-neg, is-pos, sub-eq, pos-sub, neg-pos, add-sub, plus-sub, times-sub, lt-sub}
 
 -- ---- d below -n or above 63, of d = u - 128
 
@@ -46,31 +44,27 @@ clip-mid sum offset h g =
 pub segment-base-is : (level lf seg v r : ℕ) → pos v ≡ Clip3 (pos 0) (pos 63) (subℕ (level + lf) 128)
     → pos r ≡ Clip3 (pos 0) (pos 63) (subℕ (v + seg) 128) → pos r ≡ lvlSeg true (subℕ seg 128) (baseFilterLevel level (subℕ lf 128))
 unfolding lvlSeg baseFilterLevel
-segment-base-is level lf seg v r p q = q ∙ rw (sub-plus lf 128 level, ← p, plus-sub v seg 128) refl
+segment-base-is level lf seg v r p q = q ∙ rw (+ℤ-comm (subℕ lf 128) (pos level), plus-sub level lf 128, ← p, plus-sub v seg 128) refl
 
 -- ---- a delta once below 32, twice from 32 on
 
-shl-sub-0 : (a b n : ℕ) → n ≡ 0 → shl (subℕ a b) n ≡ subℕ a b
-shl-sub-0 a b n e = rw e (times-one a b)
-
-shl-sub-1 : (a b n : ℕ) → n ≡ 1 → shl (subℕ a b) n ≡ subℕ (2 * a) (2 * b)
-shl-sub-1 a b n e = rw e (times-two a b)
+shl-sub : (a b n k : ℕ) → n ≡ k → shl (subℕ a b) n ≡ subℕ (2 ^ k * a) (2 ^ k * b)
+shl-sub a b n k e = rw e (*ℤ-comm (subℕ a b) (pos (2 ^ k)) ∙ times-sub (2 ^ k) a b)
 
 pub once : (base sum offset : ℕ) → base < 32 → pos base +ℤ shl (subℕ sum offset) (nShift (pos base)) ≡ subℕ (base + sum) offset
-once base sum offset h = rw (shl-sub-0 sum offset (base / 32) (omega arith)) (plus-sub base sum offset)
+once base sum offset h =
+    rw (shl-sub sum offset (base / 32) 0 (omega arith))
+    (plus-sub base (1 * sum) (1 * offset) ∙ sub-eq (base + 1 * sum) (1 * offset) (base + sum) offset (omega arith))
 
 pub twice : (base sum offset : ℕ) → 32 ≤ base → base < 64
     → pos base +ℤ shl (subℕ sum offset) (nShift (pos base)) ≡ subℕ (base + 2 * sum) (2 * offset)
-twice base sum offset h g = rw (shl-sub-1 sum offset (base / 32) (omega arith)) (plus-sub base (2 * sum) (2 * offset))
+twice base sum offset h g = rw (shl-sub sum offset (base / 32) 1 (omega arith)) (plus-sub base (2 * sum) (2 * offset))
 
 -- two deltas at once
-shl-add : (a b c d n : ℕ) → n ≤ 1 → shl (subℕ a b) n +ℤ shl (subℕ c d) n ≡ shl (subℕ (a + c) (b + d)) n
-shl-add a b c d n h =
-    by-cases (ℕ-discrete n 0)
-    (λ e. rw (shl-sub-0 a b n e, shl-sub-0 c d n e, shl-sub-0 (a + c) (b + d) n e) (add-sub a b c d))
-    (λ f. let e : n ≡ 1 = omega arith in
-    rw (shl-sub-1 a b n e, shl-sub-1 c d n e, shl-sub-1 (a + c) (b + d) n e)
-    (add-sub (2 * a) (2 * b) (2 * c) (2 * d) ∙ sub-eq (2 * a + 2 * c) (2 * b + 2 * d) (2 * (a + c)) (2 * (b + d)) (omega arith)))
+shl-add : (a b c d n : ℕ) → shl (subℕ a b) n +ℤ shl (subℕ c d) n ≡ shl (subℕ (a + c) (b + d)) n
+shl-add a b c d n =
+    rw (shl-sub a b n n refl, shl-sub c d n n refl, shl-sub (a + c) (b + d) n n refl, mul-add (2 ^ n) a c, mul-add (2 ^ n) b d)
+    (add-sub (2 ^ n * a) (2 ^ n * b) (2 ^ n * c) (2 ^ n * d))
 
 -- ---- the deltas of reference and mode
 
@@ -91,4 +85,4 @@ module _ (enabled : ℕ) (refs modes : ℕ → ℤ) (r m base : ℕ) where
         → pos l ≡ Clip3 (pos 0) (pos 63) (pos base +ℤ shl (subℕ (u + v) 256) (nShift (pos base)))
         → pos l ≡ lvlDelta (on enabled) refs modes r m (pos base)
     unfolding lvlDelta
-    delta-inter z h v ev p = rw (ne-eqb enabled 0 y, ne-eqb r 0 z, ← eu, ← ev, shl-add u 128 v 128 (base / 32) (omega arith)) p
+    delta-inter z h v ev p = rw (ne-eqb enabled 0 y, ne-eqb r 0 z, ← eu, ← ev, shl-add u 128 v 128 (base / 32)) p
