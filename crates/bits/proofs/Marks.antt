@@ -1,6 +1,6 @@
 -- What marks do to a set of bits, one by one, joined and in loops: the word of the bit is looked at, and no other word changes.
 use mathlib.Core.Path.{_≡_, refl, sym, ap, _∙_}
-use mathlib.Core.Bool.{Bool, _&&_, _||_, not, and-true, and-false, or-false, or-assoc}
+use mathlib.Core.Bool.{Bool, false, _&&_, _||_, not, and-true, and-false, or-false, or-assoc}
 use mathlib.Core.Logic.{by-cases}
 use mathlib.Core.List.{List}
 use Prim.Native.Nat.{ℕ, zero, suc, _+_, _-_, _*_, _/_, _%_, _^_, _<_}
@@ -11,14 +11,14 @@ use native.Mathlib.Decide.{ℕ-discrete, decLt}
 use lib.Dec.{eqb}
 use lib.Bits.{bitAnd, bitOr, or-lt}
 use lib.Pow.{pow-lt}
-use lib.ListN.{length, getD, set, length-set}
+use lib.ListN.{length, getD, set, replicate, length-set}
 use lib.Seq.{getD-set-same, getD-set-other, set-out, ext-getD}
 use borrow.Author.Tests.{eq-eqb, ne-eqb}
 use Rattle.loops.specs.Run.{upTo}
 use Rattle.loops.specs.Any.{anyBelow}
 use Rattle.bits.specs.Bit.{hasBit}
 use Rattle.bits.specs.Mark.{isSet, mark, unmark, marks, Words, Adds}
-use Rattle.bits.proofs.Bits.{bit-ext, bit-of-has, hasBit-or, hasBit-pow, hasBit-cleared, hasBit-kept}
+use Rattle.bits.proofs.Bits.{hasBit-nil, bit-ext, bit-of-has, hasBit-or, hasBit-pow, hasBit-cleared, hasBit-kept}
 
 -- two lists of 16-bit words with the same bits are the same
 pub isSet-ext : (a b : List ℕ) → length a ≡ length b → Words a → Words b → ((x : ℕ) → isSet a x ≡ isSet b x) → a ≡ b
@@ -143,3 +143,14 @@ unfolding marks mark
 words-marks zero f ms h = h
 words-marks (suc n) f ms h =
     words-or (marks n f ms) (f n / 16) (2 ^ (f n % 16)) (pow-lt {i = f n % 16} {j = 16} (omega arith)) (words-marks n f ms h)
+
+-- ---- zeros
+
+pub zero-at : (n i : ℕ) → _≡_ {A = ℕ} (getD (replicate n 0) i 0) 0
+zero-at zero i = refl
+zero-at (suc n) zero = refl
+zero-at (suc n) (suc i) = zero-at n i
+
+pub none-set : (n e : ℕ) → isSet (replicate n 0) e ≡ false
+unfolding isSet
+none-set n e = rw (zero-at n (e / 16)) (hasBit-nil (e % 16))

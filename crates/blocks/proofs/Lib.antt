@@ -1,4 +1,4 @@
 pub mod Runs
-pub mod Planes
-pub mod Wholes
+pub mod LumaChroma
+pub mod WholeTile
 pub mod Theorems

@@ -4,7 +4,7 @@ use mathlib.Core.List.{List, [], _∷_, List·Memᴰ, List·Memᴰ·head, List·
 use mathlib.Core.Path.{_≡_, refl, sym, ap, ap₂, _∙_, subst}
 use Prim.Native.Nat.{ℕ, _≤_, _<_}
 use Rattle.loops.specs.Run.{All}
-use Rattle.loops.proofs.Closed.{all-at}
+use Rattle.loops.proofs.ReadApart.{all-at}
 use Rattle.standard.specs.Edge.{Frame}
 use Rattle.plane.specs.Line.{Pass, columns, other}
 use Rattle.edges.specs.Edges.{Grid}

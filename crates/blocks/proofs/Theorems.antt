@@ -5,8 +5,8 @@ use Rattle.drawn.specs.Calls.{lumaSeen, lumaState, chromaSeen, chromaState}
 use Rattle.blocks.specs.Laid.{LumaLegal, ChromaLegal, LumaLong, ChromaLong}
 use Rattle.blocks.specs.Promises.{Promises}
 use Rattle.blocks.proofs.Runs.{in-tile}
-use Rattle.blocks.proofs.Wholes.{whole-tile}
-use Rattle.blocks.proofs.Planes.{luma-draws, luma-same, luma-stays, luma-sees, luma-part, luma-lies, chroma-draws, chroma-same, chroma-stays, chroma-sees, chroma-part, chroma-lies}
+use Rattle.blocks.proofs.WholeTile.{whole-tile}
+use Rattle.blocks.proofs.LumaChroma.{luma-draws, luma-same, luma-stays, luma-sees, luma-part, luma-lies, chroma-draws, chroma-same, chroma-stays, chroma-sees, chroma-part, chroma-lies}
 
 pub promises : Promises
 promises =

@@ -30,7 +30,7 @@ use Rattle.correct.specs.Tests.{unitsAlong, most, contextRefused, number
 use Rattle.correct.specs.Answer.{CorrectAnswer}
 use Rattle.correct.specs.Promises.{HasPlane, CorrectedUnit, bitAt, newClass, Promised, Promises}
 use Rattle.correct.proofs.Starts.{proper, shaped, inside-is, first-le}
-use Rattle.correct.proofs.Corrected.{across-in, end-in, Passed, all-passed, ready-luma}
+use Rattle.correct.proofs.AcceptedStart.{across-in, end-in, Passed, all-passed, ready-luma}
 use Rattle.correct.proofs.Numbers.{exactly-4, exactly-6, exactly-7, exactly-10, exactly-0}
 use Rattle.correct.proofs.Bits.{length-line, line-other, line-own, old-same}
 

@@ -5,7 +5,7 @@ use mathlib.Core.List.{List}
 use Prim.Native.Nat.{ℕ, _+_, _*_, _≤_, _<_}
 use native.Mathlib.Omega.{arith}
 use lib.ListN.{getD}
-use Rattle.loops.proofs.Lists.{prod-le}
+use Rattle.loops.proofs.Products.{prod-le}
 use Rattle.loops.proofs.Runs.{upTo-again}
 use Rattle.plane.specs.Line.{Pass, other, passOf}
 use Rattle.units.specs.Frame.{records, frameRecords}

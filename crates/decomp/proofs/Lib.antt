@@ -3,4 +3,4 @@ pub mod Splits
 pub mod Blocks
 pub mod Paints
 pub mod UnitTransforms
-pub mod Tiles
+pub mod UnitsOfTransform

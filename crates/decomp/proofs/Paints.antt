@@ -11,7 +11,7 @@ use lib.Dec.{eqb, ltb}
 use lib.ListN.{length, getD}
 use borrow.Author.Tests.{lt-ltb, le-ltb}
 use Rattle.loops.specs.Run.{upTo}
-use Rattle.loops.proofs.Lists.{row-in}
+use Rattle.loops.proofs.Products.{row-in}
 use Rattle.standard.specs.Sizes.{Tx_Wide, Tx_High}
 use Rattle.units.proofs.Rules.{tx-rule}
 use Rattle.decomp.specs.Cells.{cell}

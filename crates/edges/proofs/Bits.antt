@@ -10,7 +10,7 @@ use native.Mathlib.Nat.{div-add-mod', mul-comm}
 use native.Mathlib.Omega.{arith}
 use lib.Dec.{eqb}
 use borrow.Author.Tests.{eq-eqb, ne-eqb}
-use Rattle.loops.proofs.Lists.{row-in}
+use Rattle.loops.proofs.Products.{row-in}
 use Rattle.loops.proofs.Tables.{each-at}
 use Rattle.plane.specs.Line.{Pass, columns, rows, Piece, other, passNo}
 use Rattle.plane.specs.Plane.{right, down}

@@ -3,7 +3,7 @@ use mathlib.Core.Path.{_≡_, refl}
 use mathlib.Core.Bool.{Bool, true, false, cond}
 use Prim.Native.Nat.{ℕ, _+_, _*_, _/_, _%_, _^_, _≤_, _<_}
 use native.Mathlib.Omega.{arith}
-use Rattle.loops.proofs.Lists.{prod-le}
+use Rattle.loops.proofs.Products.{prod-le}
 use Rattle.loops.proofs.Tables.{each-at}
 use Rattle.plane.specs.Line.{Pass, columns, rows, Piece, other, passOf}
 use Rattle.units.specs.Frame.{records, frameRecords}

@@ -23,7 +23,7 @@ use Rattle.filter.specs.Filter.{gridOf}
 use Rattle.apply.specs.Apply.{componentOf}
 use Rattle.order.specs.Demand3.{OrderIn}
 use Rattle.example_frame.specs.Data.{head, edgesOf, bits, masks, planeOf}
-use Rattle.example_frame.proofs.Above.{near, allowed}
+use Rattle.example_frame.proofs.BoundaryTest.{near, allowed}
 use Rattle.example_frame.proofs.Orders.{listed, order}
 
 abbrev grid : ℕ → Grid

@@ -7,7 +7,7 @@ pub mod Numbers
 -- a list of pieces is an order of a superblock row, as a test
 pub mod Orders
 -- an edge on a boundary and what is above it, as a test
-pub mod Above
+pub mod BoundaryTest
 -- its edges
 pub mod Edges
 -- its samples after each pass, in either order

@@ -10,7 +10,7 @@ use native.Mathlib.Omega.{arith}
 use lib.Dec.{eqb}
 use lib.ListN.{getD}
 use borrow.Author.Tests.{eq-eqb, ne-eqb, lt-ltb, le-ltb}
-use Rattle.loops.proofs.Lists.{prod-le}
+use Rattle.loops.proofs.Products.{prod-le}
 use Rattle.plane.specs.Line.{Pass, columns, rows, lineStep, sampleStep}
 use Rattle.units.specs.Frame.{records}
 use Rattle.units.specs.Masks.{unitWords, passStart, recordRow, twoHalves}

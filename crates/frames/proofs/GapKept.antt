@@ -23,7 +23,7 @@ use Rattle.gap.proofs.NumbersMean.{edge-in}
 use Rattle.filter.specs.declared.Component.{Component}
 use Rattle.filter.specs.Filter.{Tables, gridOf, changeAt, levelOf, planeOf}
 use Rattle.frames.specs.Whole.{RowsKeep, BoundariesKeep}
-use Rattle.frames.proofs.Wholes.{gap-whole}
+use Rattle.frames.proofs.GapWhole.{gap-whole}
 
 -- ---- superblocks of units of a plane, by the two sizes at ss 0 and 1
 

@@ -1,9 +1,9 @@
-pub mod Wholes
+pub mod GapWhole
 pub mod GapKept
 pub mod Sweeps
-pub mod Regions
-pub mod Stays
+pub mod CallReach
+pub mod NumbersKept
 pub mod Planes
-pub mod Reach
+pub mod PlaneReach
 pub mod Witnesses
 pub mod Theorems

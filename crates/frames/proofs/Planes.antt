@@ -29,9 +29,9 @@ use Rattle.apply.specs.Apply.{shown, planeAt}
 use Rattle.frames.specs.Whole.{RowsKeep, BoundariesKeep}
 use Rattle.frames.specs.Calls.{Frame, callAt, lentOf, planes, Accepted, BoundariesKept}
 use Rattle.frames.proofs.GapKept.{Size, kept}
-use Rattle.frames.proofs.Regions.{fair}
+use Rattle.frames.proofs.CallReach.{fair}
 use Rattle.frames.proofs.Sweeps.{sweep-stays, shown-none}
-use Rattle.frames.proofs.Stays.{Done, done}
+use Rattle.frames.proofs.NumbersKept.{Done, done}
 
 pub record Sound (P : Plane) : Type 0 where
   pub demand : Demand3 P

@@ -20,8 +20,8 @@ use Rattle.frames.specs.Calls.{Frame, callAt, lentOf, answer, after, pla
 use Rattle.frames.specs.Promises.{OneCall, Demand, Promises}
 use Rattle.frames.specs.Witness.{pass, Differ}
 use Rattle.frames.proofs.Sweeps.{sweeps-commute}
-use Rattle.frames.proofs.Stays.{sweepCall, after-done, after-refused, answers-stay}
-use Rattle.frames.proofs.Reach.{luma-reach, u-reach, v-reach}
+use Rattle.frames.proofs.NumbersKept.{sweepCall, after-done, after-refused, answers-stay}
+use Rattle.frames.proofs.PlaneReach.{luma-reach, u-reach, v-reach}
 use Rattle.frames.proofs.Witnesses.{frame, start, accepted, kept, order-counts, witness}
 use Rattle.frames.proofs.Planes.{Sound, one-row, sound-luma, sound-u, sound-v}
 

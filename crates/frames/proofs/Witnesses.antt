@@ -22,7 +22,7 @@ use Rattle.example_frame.proofs.Samples.{sweep}
 use Rattle.frames.specs.Whole.{BoundariesKeep}
 use Rattle.frames.specs.Calls.{Frame, answer, after, planes, sbRows, Accepted, BoundariesKept}
 use Rattle.frames.specs.Witness.{InEach, pass, Differ, Witness}
-use Rattle.frames.proofs.Stays.{sweepCall, after-done, answers-stay}
+use Rattle.frames.proofs.NumbersKept.{sweepCall, after-done, answers-stay}
 use Rattle.frames.proofs.Planes.{sound-luma, sound-u, sound-v}
 
 abbrev pub frame : Frame

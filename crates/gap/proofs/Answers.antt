@@ -13,7 +13,7 @@ use Rattle.bits.proofs.Words.{word-some, has-orBelow}
 use Rattle.gap.specs.declared.track.Track.{Track}
 use Rattle.gap.specs.Line.{lineBroken}
 use Rattle.gap.specs.Track.{closeT, cut, past, track}
-use Rattle.gap.proofs.Slices.{lineOf, gap-words}
+use Rattle.gap.proofs.LinesAtOnce.{lineOf, gap-words}
 use Rattle.gap.proofs.Walks.{track-bad, track-all, track-past}
 
 any-and : (n : ℕ) (f : ℕ → Bool) (b : Bool) → anyBelow n (λ u. f u && b) ≡ (anyBelow n f && b)

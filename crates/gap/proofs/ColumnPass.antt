@@ -25,7 +25,7 @@ use Rattle.gap.specs.Line.{lineBroken}
 use Rattle.gap.specs.Lines.{lineWord}
 use Rattle.gap.specs.Numbers.{sbUnits, storedUnits, gap, halfBit, outside, Found}
 use Rattle.gap.specs.Track.{columnWords, track, Answers}
-use Rattle.gap.proofs.Found.{lines-gap, halves-out}
+use Rattle.gap.proofs.WalkNumbers.{lines-gap, halves-out}
 use Rattle.gap.proofs.Masks.{class-bit}
 use Rattle.gap.proofs.Shapes.{RowLines, RowHalves, units-stored}
 

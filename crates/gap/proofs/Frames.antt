@@ -5,7 +5,7 @@ use mathlib.Core.List.{List}
 use Prim.Native.Nat.{ℕ, _+_, _-_, _*_, _/_, _^_, _≤_, _<_, min}
 use native.Mathlib.Nat.{add-mul, mul-comm, mul-le-mul-right, zero-mul, zero-add}
 use native.Mathlib.Omega.{arith}
-use Rattle.loops.proofs.Lists.{prod-le}
+use Rattle.loops.proofs.Products.{prod-le}
 use Rattle.plane.specs.Line.{Pass, columns, rows}
 use Rattle.units.specs.Frame.{records}
 use Rattle.units.specs.Masks.{unitWords, passStart, recordRow}
@@ -14,7 +14,7 @@ use Rattle.gap.specs.declared.track.Track.{Track}
 use Rattle.edges.specs.Edges.{chromaGrid, Proper}
 use Rattle.gap.specs.Fits.{MasksFit}
 use Rattle.gap.specs.Track.{classWord, startT, partT, track, columnWords, rowWords}
-use Rattle.gap.proofs.Cells.{fewer-units}
+use Rattle.gap.proofs.StoredWords.{fewer-units}
 use Rattle.gap.proofs.Shapes.{halves, RowLines, row-lines, RowHalves, row-halves}
 use Rattle.gap.proofs.Walks.{part-track}
 

@@ -3,15 +3,15 @@ pub mod Rule
 pub mod NumbersMean
 -- Numbers of the plane, and its words and bits
 pub mod Shapes
-pub mod Runs
+pub mod LineBits
 pub mod Masks
-pub mod Cells
+pub mod StoredWords
 -- The walk
-pub mod Slices
+pub mod LinesAtOnce
 pub mod Walks
 pub mod Answers
 -- What it finds
-pub mod Found
+pub mod WalkNumbers
 pub mod ColumnPass
 pub mod RowPass
 pub mod Frames

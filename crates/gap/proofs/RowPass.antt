@@ -26,9 +26,9 @@ use Rattle.gap.specs.Line.{lineBroken}
 use Rattle.gap.specs.Lines.{lineWord}
 use Rattle.gap.specs.Numbers.{sbUnits, part, gap, halfBit, badHalf, outside, Found, RecordFound}
 use Rattle.gap.specs.Track.{rowWords, track, Answers}
-use Rattle.gap.proofs.Found.{lines-gap, halves-out}
+use Rattle.gap.proofs.WalkNumbers.{lines-gap, halves-out}
 use Rattle.gap.proofs.Masks.{along, class-bit}
-use Rattle.gap.proofs.Runs.{iff}
+use Rattle.gap.proofs.LineBits.{iff}
 use Rattle.gap.proofs.Shapes.{RowLines, units-stored, record-starts}
 
 -- ---- one record

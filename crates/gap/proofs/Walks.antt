@@ -15,7 +15,7 @@ use Rattle.bits.specs.Word.{orBelow}
 use Rattle.bits.proofs.Words.{or-none, or-more}
 use Rattle.gap.specs.declared.track.Track.{Track}
 use Rattle.gap.specs.Track.{clashW, classWord, startT, stepT, unitT, unitAtT, runT, partT, closeT, cut, past, track}
-use Rattle.gap.proofs.Slices.{prevW, atW, bound, oneW, markW, badW}
+use Rattle.gap.proofs.LinesAtOnce.{prevW, atW, bound, oneW, markW, badW}
 
 -- ---- the last three units
 

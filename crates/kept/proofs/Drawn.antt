@@ -20,7 +20,7 @@ use Rattle.drawn.specs.Run.{State, contextIn, Tallies, InTile, wholeOf, OneTile
 use Rattle.blocks.specs.Laid.{TileArea, tileIn, TileDrawn}
 use Rattle.blocks.proofs.Theorems as blocks
 use Rattle.kept.specs.Holds.{frameGrid, HoldsEdges, Begun, LumaCalls, ChromaCalls}
-use Rattle.kept.proofs.Keeps.{recorded}
+use Rattle.kept.proofs.GapOfHeld.{recorded}
 
 module _ (f : Frame) (D : standard.Frame) (n : ℕ) (G : Grid) (A : TileArea) (sx sy : ℕ) (s t : State) (start : ℕ) (units : frameGrid f n ≡ G) (T : Tallies D n G)
     (whole : (d : Pass) → tileIn A sx sy d ≡ wholeOf G d) where

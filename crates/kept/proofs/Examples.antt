@@ -9,10 +9,9 @@ use native.Mathlib.Omega.{arith}
 use lib.Dec.{ltb}
 use lib.ListN.{getD, replicate}
 use borrow.Author.Tests.{lt-ltb, le-ltb}
+use Rattle.bits.proofs.Marks.{none-set}
 use Rattle.loops.specs.Run.{All}
 use Rattle.loops.proofs.Tables.{each-at}
-use Rattle.bits.specs.Mark.{isSet}
-use Rattle.bits.proofs.Bits.{hasBit-nil}
 use Rattle.standard.specs.Sizes.{Num_4x4_Blocks_Wide, Num_4x4_Blocks_High, Tx_Wide, Tx_High}
 use Rattle.standard.specs.Edge.{applyFilter, isTxEdge, isBlockEdge}
 use Rattle.plane.specs.Line.{Pass, columns, rows}
@@ -33,8 +32,8 @@ use Rattle.blocks.proofs.Theorems as laid-calls
 use Rattle.kept.specs.Holds.{HoldsEdges, LumaCalls, ChromaCalls}
 use Rattle.kept.specs.Example.{decoded, call, clear, area, both, Example}
 use Rattle.kept.proofs.Drawn.{luma-calls, chroma-calls}
-use Rattle.kept.proofs.Accepts.{accepted}
-use Rattle.kept.proofs.Recorded.{between, after, first, second, frame}
+use Rattle.kept.proofs.ExampleAccepted.{accepted}
+use Rattle.kept.proofs.ExampleCalls.{between, after, first, second, frame}
 
 -- ---- the blocks cover the tile
 
@@ -152,15 +151,6 @@ went = blocks.call _ _ _ between _ first (blocks.call _ _ _ after _ second (bloc
 
 -- ---- the tile
 
-zero-at : (n i : ℕ) → _≡_ {A = ℕ} (getD (replicate n 0) i 0) 0
-zero-at zero i = refl
-zero-at (suc n) zero = refl
-zero-at (suc n) (suc i) = zero-at n i
-
-no-bit : (e : ℕ) → isSet (clear .masks) e ≡ false
-unfolding isSet
-no-bit e = rw (zero-at 640 (e / 16)) (hasBit-nil (e % 16))
-
 same-at : (k n i : ℕ) → i < n → getD (replicate n k) i 0 ≡ k
 same-at k zero i h = absurd (omega arith)
 same-at k (suc n) zero h = refl
@@ -192,7 +182,7 @@ luma-one : (l : List SeenBlock) × OneTile decoded 0 (lumaUnits (call 0 0 .block
 luma-one =
     let r = laid-calls.promises .luma decoded 4 area both clear after 2 luma-tallies went luma-all (laid 0 0 (omega arith) (omega arith))
     (record { above = omega arith; left = omega arith }) (λ n. omega (arith, luma-low n)) begins in
-    (r .blocks, record { tile = elim [ columns ↦ r .in-tile columns | rows ↦ r .in-tile rows ]; clear = λ d p c _ _ _. no-bit (edgeBit (lumaUnits (call 0 0 .block)) d p c) })
+    (r .blocks, record { tile = elim [ columns ↦ r .in-tile columns | rows ↦ r .in-tile rows ]; clear = λ d p c _ _ _. none-set 640 (edgeBit (lumaUnits (call 0 0 .block)) d p c) })
   where
     begins : (d : Pass) → Begins 2 (tileIn area 0 0 d) (contextIn d (lumaState clear))
     begins columns j _ h = same-at 2 2 j h
@@ -202,7 +192,7 @@ chroma-one : (l : List SeenBlock) × OneTile decoded 1 (chromaUnitsOf (call 0 0 
 chroma-one =
     let r = laid-calls.promises .chroma decoded 1 4 area 1 1 both clear after 1 chroma-tallies went chroma-all (laid 1 1 (omega arith) (omega arith))
     (record { above = omega arith; left = omega arith }) (λ n. omega (arith, chroma-low n)) begins in
-    (r .blocks, record { tile = elim [ columns ↦ r .in-tile columns | rows ↦ r .in-tile rows ]; clear = λ d p c _ _ _. no-bit (edgeBit (chromaUnitsOf (call 0 0 .block)) d p c) })
+    (r .blocks, record { tile = elim [ columns ↦ r .in-tile columns | rows ↦ r .in-tile rows ]; clear = λ d p c _ _ _. none-set 640 (edgeBit (chromaUnitsOf (call 0 0 .block)) d p c) })
   where
     begins : (d : Pass) → Begins 1 (tileIn area 1 1 d) (contextIn d (chromaState clear))
     begins columns j _ h = same-at 1 1 j h
@@ -218,7 +208,7 @@ luma-recorded =
       units = refl;
       tallies = luma-tallies;
       whole = record { left = refl; top = refl; right = refl; bottom = refl };
-      begun = record { clear = λ d p c _ _ _. no-bit (edgeBit (lumaUnits (call 0 0 .block)) d p c); contexts = elim [ columns ↦ λ j h. same-at 2 2 j h | rows ↦ λ j h. same-at 2 4 j h ] };
+      begun = record { clear = λ d p c _ _ _. none-set 640 (edgeBit (lumaUnits (call 0 0 .block)) d p c); contexts = elim [ columns ↦ λ j h. same-at 2 2 j h | rows ↦ λ j h. same-at 2 4 j h ] };
       long = record { above = omega arith; left = omega arith };
       calls = went;
       legal = luma-all;
@@ -232,7 +222,7 @@ chroma-recorded =
       units = refl;
       tallies = chroma-tallies;
       whole = record { left = refl; top = refl; right = refl; bottom = refl };
-      begun = record { clear = λ d p c _ _ _. no-bit (edgeBit (chromaUnitsOf (call 0 0 .block)) d p c); contexts = elim [ columns ↦ λ j h. same-at 1 1 j h | rows ↦ λ j h. same-at 1 2 j h ] };
+      begun = record { clear = λ d p c _ _ _. none-set 640 (edgeBit (chromaUnitsOf (call 0 0 .block)) d p c); contexts = elim [ columns ↦ λ j h. same-at 1 1 j h | rows ↦ λ j h. same-at 1 2 j h ] };
       long = record { above = omega arith; left = omega arith };
       calls = went;
       legal = chroma-all;

@@ -1,6 +1,6 @@
-pub mod Keeps
+pub mod GapOfHeld
 pub mod Drawn
-pub mod Recorded
-pub mod Accepts
+pub mod ExampleCalls
+pub mod ExampleAccepted
 pub mod Examples
 pub mod Theorems

@@ -4,7 +4,7 @@ use Rattle.tiles.proofs.Theorems as tiles
 use Rattle.kept.specs.Promises.{Promises}
 use Rattle.kept.proofs.Examples.{example}
 use Rattle.kept.proofs.Drawn.{luma-calls, chroma-calls}
-use Rattle.kept.proofs.Keeps.{recorded, eleven, all-keep, shape-of}
+use Rattle.kept.proofs.GapOfHeld.{recorded, eleven, all-keep, shape-of}
 
 pub promises : Promises
 promises =

@@ -12,7 +12,7 @@ use Rattle.list_call.proofs.Lines as lines
 use Rattle.list_call.proofs.Runs as runs
 use Rattle.list_call.proofs.Drawn as drawn
 use Rattle.list_call.proofs.PartLeft as lefts
-use Rattle.list_call.proofs.Rooms as rooms
+use Rattle.list_call.proofs.OutputFits as rooms
 
 unique : (script : List ℕ) (n m : ℕ) (before a b : List ℕ) → ListAnswer script n before a → ListAnswer script m before b → (n ≡ m) × (a ≡ b)
 unique script n m before a b f g =

@@ -9,6 +9,7 @@ use native.Mathlib.Omega.{arith}
 use lib.Dec.{eqb, ltb}
 use lib.ListN.{length, getD, set, replicate, List·getD-eq-default}
 use lib.Seq.{set-out, getD-set-same, getD-set-other}
+use Rattle.bits.proofs.Marks.{zero-at}
 use Rattle.loops.specs.Table.{tabulate}
 use Rattle.loops.proofs.Runs.{upTo-holds}
 use Rattle.loops.proofs.Tables.{length-tabulate, getD-tabulate}
@@ -26,7 +27,6 @@ use Rattle.list_script.specs.declared.ScriptLine.the-variants.{Frame, Level, Bl
 use Rattle.list_steps.specs.declared.State.{State}
 use Rattle.list_steps.specs.Steps.{form, Kept, stateOf, counted, refusedBy, refused, sideOk, depthOk, frameNumber, framed, bases, levelled, blockOf, atBlock, stored, blocked, said, taken, stepOf}
 use Rattle.list_call.specs.Listing.{start, after}
-use Rattle.list_call.proofs.Drawn.{zero-at}
 
 -- ---- bytes
 

@@ -3,14 +3,12 @@ use mathlib.Core.Bool.{Bool, true, false, _||_, false≢true}
 use mathlib.Core.List.{List, [], _∷_}
 use mathlib.Core.Logic.{_⊎_, inl, inr, ⊎-elim, by-cases}
 use mathlib.Core.Path.{_≡_, refl, sym, ap, subst, _∙_}
-use Prim.Native.Nat.{ℕ, zero, suc, _+_, _/_, _%_, _<_}
-use native.Mathlib.Decide.{decLt}
+use Prim.Native.Nat.{ℕ, zero, suc, _+_, _<_}
 use native.Mathlib.Omega.{arith}
-use lib.ListN.{length, getD, take, replicate, length-replicate, getD-replicate, List·getD-eq-default}
+use lib.ListN.{length, getD, take}
+use Rattle.bits.proofs.Marks.{none-set}
 use Rattle.loops.specs.Exactly.{Exactly}
-use Rattle.bits.specs.Bit.{hasBit}
 use Rattle.bits.specs.Mark.{isSet}
-use Rattle.bits.proofs.Bits.{hasBit-nil}
 use Rattle.block.specs.Block.{Lent}
 use Rattle.list_script.specs.declared.ScriptLine.{ScriptLine}
 use Rattle.list_script.specs.declared.ScriptLine.the-variants.{Frame, Level, Block as BlockLine, Form}
@@ -99,16 +97,6 @@ module _ (e : ℕ) where
   always k [] z j h d = absurd (omega arith)
   always k (l ∷ ls) z zero h d = keeps (stepOf k l) ls z (step-draws k l e (unrefused k (l ∷ ls) z) (unrefused (stepOf k l) ls z) d)
   always k (l ∷ ls) z (suc j) h d = always (stepOf k l) ls z j (omega arith) d
-
-pub zero-at : (n i : ℕ) → getD {A = ℕ} (replicate n 0) i 0 ≡ 0
-zero-at n i =
-    by-cases (decLt i n)
-    (λ h. getD-replicate n i 0 0 h)
-    (λ h. List·getD-eq-default (replicate n 0) 0 (omega (arith, length-replicate {A = ℕ} n 0)))
-
-none-set : (n e : ℕ) → isSet (replicate n 0) e ≡ false
-unfolding isSet
-none-set n e = ap (λ (w : ℕ). hasBit w (e % 16)) (zero-at n (e / 16)) ∙ hasBit-nil (e % 16)
 
 start-masks : (e : ℕ) → isSet (start .memory .masks) e ≡ false
 unfolding start

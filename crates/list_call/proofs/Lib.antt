@@ -4,6 +4,6 @@ pub mod LinesTaken
 pub mod Drawn
 pub mod Bounds
 pub mod PartLeft
-pub mod Rooms
+pub mod OutputFits
 pub mod Texts
 pub mod Answers

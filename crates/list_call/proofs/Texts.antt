@@ -6,7 +6,7 @@ use native.Mathlib.Omega.{arith}
 use borrow.Author.Tests.{eq-eqb, ne-eqb, lt-ltb, le-ltb, le-leb, lt-leb}
 use lib.ListN.{length, take, drop, replicate, length-replicate}
 use lib.Seq.{take-at}
-use Rattle.loops.proofs.Lists.{prod-le}
+use Rattle.loops.proofs.Products.{prod-le}
 use Rattle.units.specs.Units.{unitsOf}
 use Rattle.list_decimal.specs.Decimal.{pasted}
 use Rattle.list_fields.specs.Word.{Bytes}
@@ -18,7 +18,7 @@ use Rattle.list_steps.specs.declared.State.{State}
 use Rattle.list_steps.specs.Steps.{form, Kept}
 use Rattle.list_call.specs.Listing.{linesOf, start, after, heldIn, textIn, textOf, outputOf, room, ListAnswer, Left, Texted, Listable}
 use Rattle.list_call.proofs.PartLeft.{left}
-use Rattle.list_call.proofs.Rooms.{form-short, refused-short}
+use Rattle.list_call.proofs.OutputFits.{form-short, refused-short}
 
 module _ (s : State) (levels masks : List ℕ) where
   text-form : s .number ≡ form → formText (s .line) ≡ textIn s levels masks

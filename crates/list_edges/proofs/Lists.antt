@@ -12,7 +12,7 @@ use native.Mathlib.Omega.{arith}
 use borrow.Author.Tests.{eqb-false, ne-eqb}
 use lib.Dec.{eqb}
 use Rattle.loops.specs.Run.{cat}
-use Rattle.loops.proofs.Closed.{all-at, all-of}
+use Rattle.loops.proofs.ReadApart.{all-at, all-of}
 use Rattle.loops.proofs.Loops.{mem-cat}
 use Rattle.plane.specs.Line.{Pass, columns, rows, passNo}
 use Rattle.plane.specs.Plane.{unit}

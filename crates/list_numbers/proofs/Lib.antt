@@ -1,6 +1,6 @@
 pub mod Texts
-pub mod Moves
-pub mod Rooms
-pub mod Judged
+pub mod LineSteps
+pub mod MemoryFits
+pub mod LineNumber
 pub mod Verdicts
 pub mod Outputs

@@ -29,7 +29,7 @@ use Rattle.list_call.proofs.PartLeft.{left}
 use Rattle.list_numbers.specs.Faults.{FormFault, no-line, Refuses, sharpness-above, level, depth-other, shape, pair-at-400, block, Fault, Sound}
 use Rattle.list_numbers.specs.Promises.{NoForm, faulty, missing, Formless, Refused, Whole, listOf, Ends, formless, refused, whole, Keeps, Promises}
 use Rattle.list_numbers.proofs.Texts.{refused-same, form-same, form-refused, list-refused, list-form}
-use Rattle.list_numbers.proofs.Rooms.{start-room, no-6, no-7}
+use Rattle.list_numbers.proofs.MemoryFits.{start-room, no-6, no-7}
 use Rattle.list_numbers.proofs.Verdicts.{Verdict, sound, formless, refused, same-line, Reached, verdict, next}
 
 -- ---- the bytes of lines

@@ -21,10 +21,10 @@ use Rattle.list_steps.specs.Steps.{form, longest, Kept, said, bases, blockOf, a
 use Rattle.list_steps.specs.Promises.{Proper}
 use Rattle.list_steps.proofs.Outcomes.{promises as steps}
 use Rattle.list_numbers.specs.Faults.{At, InTurn, FormFault, too-long, no-line, out-of-turn, Refuses, Fault, Sound}
-use Rattle.list_numbers.proofs.Moves.{form-number, frame-late, frame-number, frame-state, level-late, level-number, level-state, level-values}
-use Rattle.list_numbers.proofs.Moves.{block-late, block-number, block-state, block-values}
-use Rattle.list_numbers.proofs.Rooms.{Room, step-room, no-6, no-7}
-use Rattle.list_numbers.proofs.Judged.{Judged, clear, refuses, frame-judged, level-judged, block-judged}
+use Rattle.list_numbers.proofs.LineSteps.{form-number, frame-late, frame-number, frame-state, level-late, level-number, level-state, level-values}
+use Rattle.list_numbers.proofs.LineSteps.{block-late, block-number, block-state, block-values}
+use Rattle.list_numbers.proofs.MemoryFits.{Room, step-room, no-6, no-7}
+use Rattle.list_numbers.proofs.LineNumber.{Judged, clear, refuses, frame-judged, level-judged, block-judged}
 
 pub data Verdict (ls : List (List ℕ)) (j : ℕ) : ℕ → Type 0 where
   sound : Sound ls j → Verdict ls j 0

@@ -9,7 +9,7 @@ use borrow.Author.Tests.{eq-eqb, ne-eqb, lt-ltb}
 use lib.Dec.{eqb}
 use lib.ListN.{length, getD}
 use mir.Val.{boolByte}
-use Rattle.loops.proofs.Lists.{prod-le}
+use Rattle.loops.proofs.Products.{prod-le}
 use Rattle.plane.specs.Line.{Pass, columns, rows, other, passNo, passOf}
 use Rattle.plane.specs.Plane.{unit}
 use Rattle.units.specs.Frame.{records, frameRecords}

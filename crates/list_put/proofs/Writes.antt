@@ -7,7 +7,7 @@ use native.Mathlib.Numerals.{add-one}
 use native.Mathlib.Omega.{arith}
 use lib.ListN.{length, take, drop, length-append, take-append-drop}
 use Rattle.loops.specs.Run.{cat}
-use Rattle.loops.proofs.Lists.{row-in}
+use Rattle.loops.proofs.Products.{row-in}
 use Rattle.list_text.specs.Text.{header, totalText, Put}
 use Rattle.list_text.proofs.Puts.{put-then}
 use Rattle.list_edges.specs.Listed.{Held, Edge, edgesOf, lineText, linesText, listText}

@@ -1,4 +1,4 @@
 pub mod Tables
 pub mod Lines
-pub mod Finds
+pub mod NamesFound
 pub mod LinesSaid

@@ -27,7 +27,7 @@ use Rattle.list_script.specs.Script.{space, at, isWord, numberAt, noNumb
 use Rattle.list_script.specs.Promises.{Numeral, Word, Chroma, none, given, named, Says, frame, level, block, printed, Sayable, luma, pair, Reads, Promises}
 use Rattle.list_script.specs.declared.ScriptLine.{ScriptLine}
 use Rattle.list_script.specs.declared.ScriptLine.the-variants.{Form}
-use Rattle.list_script.proofs.Finds.{bytes-of, block-coded, tx-coded, block-decoded, tx-decoded}
+use Rattle.list_script.proofs.NamesFound.{bytes-of, block-coded, tx-coded, block-decoded, tx-decoded}
 use Rattle.list_script.proofs.Lines.{is-none, is-given, frame-form, frame-line, level-other, level-form, level-line, block-form, block-empty}
 use Rattle.list_script.proofs.Lines.{block-other, block-line, seven-frame, seven-block, seven-form, line-five, line-seven, line-form}
 

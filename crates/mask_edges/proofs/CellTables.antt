@@ -14,11 +14,11 @@ use Rattle.decomp.specs.Split.{txAt}
 use Rattle.decomp.specs.Cells.{Covers, Cells}
 use Rattle.decomp.specs.Folds.{block}
 use Rattle.decomp.proofs.UnitTransforms.{txAt-code, cells}
-use Rattle.decomp.proofs.Tiles.{txAt-same}
+use Rattle.decomp.proofs.UnitsOfTransform.{txAt-same}
 use Rattle.mask_edges.specs.declared.edge.BlockPass.{BlockPass}
 use Rattle.mask_edges.specs.Recording.{Sweep, columns, rows, interBlock}
 use Rattle.mask_edges.specs.Folds.{cellAt, passOver, columnsOf, rowsOf, zeros, tables, Told}
-use Rattle.mask_edges.proofs.Tiles.{Tiles, reached}
+use Rattle.mask_edges.proofs.TransformsAlong.{Tiles, reached}
 
 pub record Reads (a : List ℕ) (d : Pass) (S : Sweep) : Type 0 where
   pub tables : length a ≡ 4096

@@ -19,7 +19,7 @@ use Rattle.mask_edges.specs.Recording.{Sweep, classBefore, classAt, edge
 use Rattle.mask_edges.specs.Folds.{blockEdge, stepEdges, walk, lineEdges, gridPass, cellPass}
 use Rattle.mask_edges.proofs.Halves.{reflects-same}
 use Rattle.mask_edges.proofs.LoopTurns.{stepping}
-use Rattle.mask_edges.proofs.Tiles.{Tiles, within, next, none}
+use Rattle.mask_edges.proofs.TransformsAlong.{Tiles, within, next, none}
 
 adds-as : (n : ℕ) (g : List ℕ → List ℕ) (P Q : ℕ → Bool) → ((e : ℕ) → P e ≡ Q e) → Adds n g P → Adds n g Q
 adds-as n g P Q e A = record { long = A .long; bits = λ ms l x. A .bits ms l x ∙ ap (λ (b : Bool). isSet ms x || b) (e x) }

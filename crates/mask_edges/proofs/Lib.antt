@@ -4,8 +4,8 @@ pub mod Contexts
 pub mod LoopTurns
 pub mod Walks
 pub mod BlockPasses
-pub mod Tiles
+pub mod TransformsAlong
 pub mod CellTables
 pub mod Edges
 pub mod Theorems
-pub mod Whole
+pub mod UnsplitInter

@@ -7,7 +7,7 @@ use native.Mathlib.Nat.{div-le-self, div-eq-of-lt}
 use native.Mathlib.Omega.{arith}
 use lib.ListN.{getD, set}
 use Rattle.loops.proofs.Runs.{upTo-again}
-use Rattle.loops.proofs.Lists.{step-in, steps-in}
+use Rattle.loops.proofs.Products.{step-in, steps-in}
 use Rattle.bits.specs.Mark.{mark, marks}
 use Rattle.bits.proofs.Marks.{marks-none, marks-more}
 use Rattle.mask_edges.specs.declared.edge.BlockPass.{BlockPass}

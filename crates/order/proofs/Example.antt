@@ -10,7 +10,7 @@ use mathlib.Core.List.{List, [], _∷_, List·Memᴰ·head}
 use lib.Dec.{T, eqb, eqb→eq, ltb, ltb→lt}
 use lib.ListN.{length-replicate, replicate, take, drop}
 use Rattle.loops.specs.Run.{cat}
-use Rattle.loops.proofs.Closed.{all-of}
+use Rattle.loops.proofs.ReadApart.{all-of}
 use Rattle.loops.proofs.Loops.{mem-cat, distinct-cat}
 use Rattle.plane.specs.Line.{Pass, columns, rows, Piece}
 use Rattle.plane.specs.Gap.{Mark, an-edge, the-start, the-end, a-boundary, Allowed, GapRule}

@@ -9,7 +9,7 @@ use lib.ListN.{length, getD}
 use lib.Arith.{digits-div}
 use Rattle.loops.specs.Run.{run, All, Distinct, Once, upTo, cat}
 use Rattle.loops.proofs.Runs.{run-past, rows-in-turn}
-use Rattle.loops.proofs.Closed.{run-once, run-sees, run-keeps, all-at, all-of}
+use Rattle.loops.proofs.ReadApart.{run-once, run-sees, run-keeps, all-at, all-of}
 use Rattle.loops.proofs.Loops.{loop-run, mem-cat, all-cat, distinct-cat}
 use Rattle.plane.specs.Line.{Pass, columns, rows, Piece, lineOf, placeOf}
 use Rattle.plane.specs.Plane.{luma, chroma, Plane, class, IsPiece, ruleOf, act, colsOf, rowsOf, unit, rasterOf, right, down, Kept, Anywhere, InRow}

@@ -10,7 +10,7 @@ use lib.ListN.{take, drop, take-append-drop}
 use lib.Seq.{ext-getD}
 use Rattle.loops.specs.Local.{Local, Apart}
 use Rattle.loops.specs.Run.{run, All, Distinct}
-use Rattle.loops.proofs.Closed.{run-keeps, run-outside, run-inside, run-once, writer, all-at, all-of}
+use Rattle.loops.proofs.ReadApart.{run-keeps, run-outside, run-inside, run-once, writer, all-at, all-of}
 use Rattle.plane.specs.Line.{Pass, Piece, Box, lineOf}
 use Rattle.plane.specs.Plane.{Plane, IsPiece, ruleOf, act, Anywhere}
 use Rattle.plane.proofs.Pieces as piece

@@ -31,7 +31,7 @@ use Rattle.apply.specs.Promises.{passed}
 use Rattle.apply.proofs.Laws as apply
 use Rattle.apply.proofs.ReadyPlanes.{ready}
 use Rattle.frames.specs.Within.{WithinRow, Agree}
-use Rattle.frames.proofs.Regions.{fair, sweep-outside, sweep-inside}
+use Rattle.frames.proofs.CallReach.{fair, sweep-outside, sweep-inside}
 use Rattle.own_row.specs.Own.{OwnSample, SameSamples, SameTables, SameLent, withSamples}
 use Rattle.own_row.proofs.Numbers.{number-same}
 use Rattle.own_row.proofs.Passes.{sweep-same}

@@ -2,7 +2,7 @@
 use mathlib.Core.Bool.{Bool, true, false, not, _&&_, _||_, false≢true}
 use mathlib.Core.List.{List}
 use mathlib.Core.Logic.{_⊎_, inl, inr, by-cases}
-use mathlib.Core.Path.{_≡_, sym}
+use mathlib.Core.Path.{_≡_, refl, sym}
 use Prim.Native.Nat.{ℕ, _*_, _<_, _≤_}
 use native.Mathlib.Decide.{ℕ-discrete}
 use native.Mathlib.Omega.{arith}
@@ -49,8 +49,15 @@ module _ (b : Block) (level-stride : ℕ) (m : Lent) (e : number b level-stride 
       (λ n. by-cases (ℕ-discrete (b .tx) 0) inr
       (λ k. absurd (false≢true (sym (rw (i, ne-eqb (b .tx) (Max_Tx_Size_Rect (b .size)) n, ne-eqb (b .tx) 0 k) at (all .max-tx))))))
 
-  pub reference-in : b .inter ≡ true → b .reference < 8
+  reference-in : b .inter ≡ true → b .reference < 8
   reference-in i = omega (arith, ltb-false 7 (b .reference) (rw i at (all .ref)))
+
+  pub reference-low : (b .inter ≡ false → b .reference < 8) → b .reference < 8
+  reference-low h = go (b .inter) refl
+    where
+      go : (t : Bool) → b .inter ≡ t → b .reference < 8
+      go true = reference-in
+      go false = h
 
   pub fitting : Fitting b
   fitting =

@@ -9,7 +9,7 @@ use lib.ListN.{length, set, take, drop, length-set, take-append-drop}
 use lib.Seq.{length-take-le, take-set-le, drop-set-add, set-append-left, drop-at}
 use borrow.Rule.Slice.PartMut.{midOf, postOf, putMid, mid-len, put-same, take-put}
 use Rattle.loops.proofs.Runs.{upTo-again}
-use Rattle.loops.proofs.Lists.{part-put}
+use Rattle.loops.proofs.Products.{part-put}
 use Rattle.units.specs.Units.{chromaUnit}
 use Rattle.units.specs.Memory.{levelAt}
 use Rattle.mask_edges.specs.Folds as folds

@@ -16,9 +16,9 @@ use masks::luma_masks;
 use units::LumaUnit;
 use units::Sample;
 ghost use mathlib.Core.Path.{_≡_};
-ghost use mathlib.Core.Bool.{true};
+ghost use mathlib.Core.Bool.{true, false};
 ghost use mathlib.Core.List.{[]};
-ghost use Prim.Native.Nat.{_*_, _≤_};
+ghost use Prim.Native.Nat.{_*_, _<_, _≤_};
 ghost use lib.ListN.{length};
 ghost use Rattle.units.specs.Frame.{frameRecords};
 ghost use Rattle.block.specs.Block.{w4, h4, bw4, bh4, cbw4, cbh4, seesLuma, seesChroma, lent};
@@ -92,6 +92,51 @@ fn chroma_pair(
     chroma_masks(masks, b, w, h, &mut above[..width], &mut left[..height]);
 }
 
+// A refused block stores nothing.
+fn record_block(
+    levels: &mut [u8],
+    level_stride: usize,
+    masks: &mut [u16],
+    values: &[u8; 64],
+    b: Block,
+    tx_masks: &[u16; 2],
+    above: &mut [u8],
+    left: &mut [u8],
+    above_uv: &mut [u8],
+    left_uv: &mut [u8],
+) -> u32
+    requires { ⌜ (b .inter ≡ false → b .reference < 8) × (b .mode < 2) ⌝ }
+    ensures { λ r. ⌜ RecordAnswer b «level_stride» (now (values .entry)) (now («tx_masks» .entry)) r
+        (lent (now (levels .entry)) (now (masks .entry)) (now (above .entry)) (now (left .entry)) (now («above_uv» .entry)) (now («left_uv» .entry)))
+        (lent (now (levels .exit)) (now (masks .exit)) (now (above .exit)) (now (left .exit)) (now («above_uv» .exit)) (now («left_uv» .exit))) ⌝ }
+{
+    let n = number(
+        b,
+        level_stride,
+        levels,
+        masks,
+        above,
+        left,
+        above_uv,
+        left_uv,
+    );
+    if n != 0 {
+        return n;
+    }
+    luma(
+        levels,
+        level_stride,
+        masks,
+        values,
+        b,
+        tx_masks,
+        above,
+        left,
+    );
+    chroma_pair(levels, level_stride, masks, values, b, above_uv, left_uv);
+    0
+}
+
 pub fn record_intra(
     levels: &mut [u8],
     level_stride: usize,
@@ -130,22 +175,18 @@ pub fn record_intra(
         reference: 0,
         mode: 0,
     };
-    let n = number(
-        b,
-        level_stride,
+    record_block(
         levels,
+        level_stride,
         masks,
+        values,
+        b,
+        &[0, 0],
         above,
         left,
         above_uv,
         left_uv,
-    );
-    if n != 0 {
-        return n;
-    }
-    luma(levels, level_stride, masks, values, b, &[0, 0], above, left);
-    chroma_pair(levels, level_stride, masks, values, b, above_uv, left_uv);
-    0
+    )
 }
 
 pub fn record_inter(
@@ -190,20 +231,7 @@ pub fn record_inter(
         reference: reference as usize,
         mode: (mode != 0) as usize,
     };
-    let n = number(
-        b,
-        level_stride,
-        levels,
-        masks,
-        above,
-        left,
-        above_uv,
-        left_uv,
-    );
-    if n != 0 {
-        return n;
-    }
-    luma(
+    record_block(
         levels,
         level_stride,
         masks,
@@ -212,9 +240,9 @@ pub fn record_inter(
         tx_masks,
         above,
         left,
-    );
-    chroma_pair(levels, level_stride, masks, values, b, above_uv, left_uv);
-    0
+        above_uv,
+        left_uv,
+    )
 }
 
 // The theorems of specs/Promises.antt are proved.

@@ -26,7 +26,7 @@ use Rattle.agree.proofs.Marked.{no-unit}
 use Rattle.drawn.specs.Owner.{StandsIn, Owns, blockStart, sweepIn, frameBit}
 use Rattle.drawn.proofs.Owners.{own, others}
 use Rattle.drawn.proofs.Calls.{luma-shape, luma-at, chroma-at, no-chroma, chroma-place-is}
-use Rattle.drawn.proofs.Chromas.{no-luma}
+use Rattle.drawn.proofs.ChromaCalls.{no-luma}
 use Rattle.recorded_edges.specs.Held.{placeIn, blockGrid, SeenIn}
 
 -- the block in its record

@@ -27,7 +27,7 @@ use Rattle.frames.specs.Calls.{Frame, callAt, lentOf, after, planes, sbRows, Ac
 use Rattle.frames.specs.Promises.{Demand}
 use Rattle.frames.proofs.GapKept.{some-sb, in-superblocks}
 use Rattle.frames.proofs.Sweeps.{shown-none}
-use Rattle.frames.proofs.Stays.{Done, done}
+use Rattle.frames.proofs.NumbersKept.{Done, done}
 use Rattle.frames.proofs.Theorems as frames
 use Rattle.standard_planes.specs.Piece.{widthAt, There}
 use Rattle.standard_planes.specs.Frame.{Sharp, frameLevel, Filters, Steps, ByStandard}

@@ -24,7 +24,7 @@ use Rattle.checks.specs.Call.{Lent, samples, callPass, strideOf, Filtered}
 use Rattle.checks.specs.Tests.{number}
 use Rattle.apply.specs.Apply.{componentOf, Limits, tablesOf, planeAt}
 use Rattle.apply.proofs.ReadyPlanes.{ready}
-use Rattle.frames.proofs.Regions.{far}
+use Rattle.frames.proofs.CallReach.{far}
 use Rattle.standard_planes.specs.Piece.{pieceLevel, widthAt, There}
 
 -- a sample of one of n lines

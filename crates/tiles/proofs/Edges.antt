@@ -15,10 +15,10 @@ use Rattle.edges.specs.Edges.{Grid, unitsOf, classes, edgeBit, edge}
 use Rattle.covering.specs.Front.{Tile}
 use Rattle.covering.specs.Standard.{sideAt, transformClass, edgeClass, appliesAt, filteredEdge}
 use Rattle.drawn.specs.Run.{drawnClass}
-use Rattle.drawn.proofs.Frames.{eqb-turn, all-edges}
+use Rattle.drawn.proofs.EdgesFromBits.{eqb-turn, all-edges}
 use Rattle.tiles.specs.Tiles.{turned, In, Fix, InTiles}
-use Rattle.tiles.proofs.Joins.{start-applies, tiles-bit}
-use Rattle.tiles.proofs.Fixed.{never-stays, once-fixed}
+use Rattle.tiles.proofs.TilesJoined.{start-applies, tiles-bit}
+use Rattle.tiles.proofs.CorrectedBits.{never-stays, once-fixed}
 
 module _ (D : Frame) (plane : ℕ) (G : Grid) (start : ℕ) (ts : List Tile) (l : List Fix) (m n o : List ℕ) (I : InTiles D plane G start ts l m n o) where
   module _ (d : Pass) (p : Piece) (px : p .0 < unitsOf G d) (py : p .1 < unitsOf G (other d)) where

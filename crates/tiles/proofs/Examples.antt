@@ -4,14 +4,13 @@ use mathlib.Core.List.{[], _∷_, List·Memᴰ, List·Memᴰ·head, List·Memᴰ
 use mathlib.Core.Logic.{inl, inr, by-cases}
 use mathlib.Core.Option.{some}
 use mathlib.Core.Path.{_≡_, refl, sym, ap, _∙_, subst}
-use Prim.Native.Nat.{ℕ, zero, suc, _+_, _-_, _/_, _%_, _<_}
+use Prim.Native.Nat.{ℕ, zero, suc, _+_, _-_, _%_, _<_}
 use native.Mathlib.Decide.{decLt}
 use native.Mathlib.Omega.{arith}
 use lib.ListN.{getD, replicate}
 use borrow.Author.Tests.{lt-ltb, le-ltb}
-use Rattle.loops.proofs.Closed.{all-at}
-use Rattle.bits.specs.Mark.{isSet}
-use Rattle.bits.proofs.Bits.{hasBit-nil}
+use Rattle.bits.proofs.Marks.{none-set}
+use Rattle.loops.proofs.ReadApart.{all-at}
 use Rattle.standard.specs.Sizes.{Num_4x4_Blocks_Wide, Num_4x4_Blocks_High, Tx_Wide, Tx_High}
 use Rattle.standard.specs.Edge.{applyFilter, isTxEdge, isBlockEdge}
 use Rattle.plane.specs.Line.{Pass, columns, rows, Piece, other, passNo, passOf}
@@ -31,8 +30,8 @@ use Rattle.drawn.specs.Run.{Run, InTile}
 use Rattle.drawn.proofs.Theorems as drawn
 use Rattle.tiles.specs.Tiles.{turned, In, done, tile, Fix, Fixes, keptAt, FixedOnce, Never, AtStarts, InTiles}
 use Rattle.tiles.specs.Example.{decoded, call, fresh, clear, fixOf, tilesOf, Example}
-use Rattle.tiles.proofs.Recorded as calls
-use Rattle.tiles.proofs.Recorded.{between, after, masks}
+use Rattle.tiles.proofs.ExampleCalls as calls
+use Rattle.tiles.proofs.ExampleCalls.{between, after, masks}
 use Rattle.tiles.proofs.Edges.{edges}
 
 -- ---- two tiles
@@ -95,15 +94,6 @@ one-tiled x n y h pos =
       within = (record { some = pos; left = omega arith; right = omega arith; top = omega arith; bottom = omega arith }, tt);
       every = λ u j a b c d. (_, List·Memᴰ·head refl, record { line = record { first = omega arith; last = omega arith }; first = omega arith; last = omega arith });
     }
-
-zero-at : (n i : ℕ) → _≡_ {A = ℕ} (getD (replicate n 0) i 0) 0
-zero-at zero i = refl
-zero-at (suc n) zero = refl
-zero-at (suc n) (suc i) = zero-at n i
-
-no-bit : (e : ℕ) → isSet (clear .masks) e ≡ false
-unfolding isSet
-no-bit e = rw (zero-at 640 (e / 16)) (hasBit-nil (e % 16))
 
 same-at : (k n i : ℕ) → i < n → getD (replicate n k) i 0 ≡ k
 same-at k zero i h = absurd (omega arith)
@@ -246,7 +236,7 @@ luma-tiles =
                 elim [ columns ↦ every 16 20 2 (omega arith) (omega arith) columns | rows ↦ every 16 20 2 (omega arith) (omega arith) rows ];
           };
       recorded = tile _ _ _ (lumaState clear) (lumaState between) _ luma-first (tile _ _ _ (lumaState (fresh between)) (lumaState after) _ luma-second (done _));
-      clear = λ d p c _ _ _. no-bit (edgeBit (lumaGrid 20 2) d p c);
+      clear = λ d p c _ _ _. none-set 640 (edgeBit (lumaGrid 20 2) d p c);
       corrected = calls.fixed;
       starts = luma-starts;
     }
@@ -317,7 +307,7 @@ chroma-tiles =
                 elim [ columns ↦ every 8 10 1 (omega arith) (omega arith) columns | rows ↦ every 8 10 1 (omega arith) (omega arith) rows ];
           };
       recorded = tile _ _ _ (chromaState clear) (chromaState between) _ chroma-first (tile _ _ _ (chromaState (fresh between)) (chromaState after) _ chroma-second (done _));
-      clear = λ d p c _ _ _. no-bit (edgeBit (chromaGrid 1 1 20 2) d p c);
+      clear = λ d p c _ _ _. none-set 640 (edgeBit (chromaGrid 1 1 20 2) d p c);
       corrected = calls.fixed;
       starts = chroma-starts;
     }

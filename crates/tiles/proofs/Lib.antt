@@ -1,7 +1,7 @@
-pub mod Joins
-pub mod Fixed
+pub mod TilesJoined
+pub mod CorrectedBits
 pub mod Edges
-pub mod Calls
-pub mod Recorded
+pub mod ComputedCalls
+pub mod ExampleCalls
 pub mod Examples
 pub mod Theorems

@@ -1,6 +1,6 @@
 -- The promises, proved.
 use Rattle.tiles.specs.Promises.{Promises}
-use Rattle.tiles.proofs.Joins.{start-applies, tiles-bit}
+use Rattle.tiles.proofs.TilesJoined.{start-applies, tiles-bit}
 use Rattle.tiles.proofs.Edges.{edges}
 use Rattle.tiles.proofs.Examples.{example}
 

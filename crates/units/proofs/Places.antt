@@ -7,7 +7,7 @@ use native.Mathlib.Omega.{arith}
 use lib.Dec.{eqb}
 use Rattle.loops.specs.Exactly.{Exactly}
 use Rattle.loops.proofs.Tables.{each-at}
-use Rattle.loops.proofs.Lists.{row-in}
+use Rattle.loops.proofs.Products.{row-in}
 use Rattle.units.specs.Units.{unitsOf, chromaUnit, chromaUnits}
 use Rattle.units.specs.Layout.{ssHor, ssVer}
 use Rattle.units.specs.Frame.{stored, records, frameRecords, recordOf, superblocks}

@@ -1,6 +1,6 @@
 pub mod WidthsThresholds
 pub mod Visits
 pub mod Ranges
-pub mod Moves
+pub mod WalkLoop
 pub mod Places
 pub mod Laws

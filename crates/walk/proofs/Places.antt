@@ -8,7 +8,7 @@ use native.Mathlib.Decide.{ℕ-discrete}
 use native.Mathlib.Omega.{arith}
 use Rattle.loops.specs.Run.{run}
 use Rattle.loops.proofs.Runs.{run-append}
-use Rattle.loops.proofs.Closed.{all-at, all-of}
+use Rattle.loops.proofs.ReadApart.{all-at, all-of}
 use Rattle.bits.specs.Bit.{hasBit}
 use Rattle.bits.specs.Walk.{visits}
 use Rattle.walk.specs.Promises.{places, Rising}

@@ -5,7 +5,7 @@ use lib.ListN.{length}
 use denote.Ref.{now}
 use borrow.Author.Tests.{ne-eqb}
 use borrow.Author.Needs.{needs}
-use Rattle.correct.proofs.Corrected.{ready-luma, ready-chroma}
+use Rattle.correct.proofs.AcceptedStart.{ready-luma, ready-chroma}
 use Rattle.correct.specs.Correct.{planeDone}
 use Rattle.correct.specs.Answer.{startOf, Ready}
 use Rattle.correct.proofs.correct.Statement.{statement}

@@ -4,7 +4,7 @@ use denote.Ref.{now}
 use borrow.Author.Tests.{not-true, not-false}
 use borrow.Author.Needs.{needs}
 use Rattle.correct.proofs.Starts.{corrects-inside}
-use Rattle.correct.proofs.Corrected.{fits, plane-off, plane-on}
+use Rattle.correct.proofs.AcceptedStart.{fits, plane-off, plane-on}
 use Rattle.correct.proofs.correct_plane.Statement.{statement}
 use Rattle.correct.proofs.correct_plane.Tie as tie
 

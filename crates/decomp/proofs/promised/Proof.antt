@@ -1,7 +1,7 @@
 -- The promises are theorems.
 use Rattle.decomp.specs.Promises.{Promises}
 use Rattle.decomp.proofs.UnitTransforms.{cells}
-use Rattle.decomp.proofs.Tiles.{txAt-same}
+use Rattle.decomp.proofs.UnitsOfTransform.{txAt-same}
 use Rattle.decomp.proofs.promised.Statement.{statement}
 use Rattle.decomp.proofs.promised.Tie as tie
 

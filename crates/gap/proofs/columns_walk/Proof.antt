@@ -4,7 +4,7 @@ use Prim.Native.Nat.{_+_, _-_, _*_, _/_, _^_, _≤_}
 use native.Mathlib.Omega.{arith}
 use borrow.Author.Needs.{needs}
 use Rattle.gap.specs.Track.{track, columnWords}
-use Rattle.gap.proofs.Cells.{fewer-units}
+use Rattle.gap.proofs.StoredWords.{fewer-units}
 use Rattle.units.proofs.Places.{side-le}
 use Rattle.gap.proofs.Frames.{columns-none, columns-more}
 use Rattle.gap.proofs.columns_walk.Statement.{statement}

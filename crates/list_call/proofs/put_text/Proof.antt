@@ -2,7 +2,7 @@
 use borrow.Author.Needs.{needs}
 use native.Mathlib.Omega.{arith}
 use Prim.Native.Nat.{_+_}
-use Rattle.list_call.proofs.Rooms.{form-short, refused-short}
+use Rattle.list_call.proofs.OutputFits.{form-short, refused-short}
 use Rattle.list_call.proofs.Texts.{form-texted, refused-texted, early-texted, list-texted, wide-texted, high-texted}
 use Rattle.list_call.proofs.put_text.Statement.{statement}
 use Rattle.list_call.proofs.put_text.Tie as tie

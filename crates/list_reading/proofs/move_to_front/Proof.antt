@@ -3,7 +3,7 @@ use borrow.Author.Needs.{needs}
 use native.Mathlib.Omega.{arith}
 use mathlib.Core.Path.{_≡_}
 use Prim.Native.Nat.{_-_, _≤_}
-use Rattle.list_reading.proofs.Moves.{Moving, moving-none, moving-step}
+use Rattle.list_reading.proofs.BufferMoved.{Moving, moving-none, moving-step}
 use Rattle.list_reading.proofs.move_to_front.Statement.{statement}
 use Rattle.list_reading.proofs.move_to_front.Tie as tie
 

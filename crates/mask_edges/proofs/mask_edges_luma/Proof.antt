@@ -1,7 +1,7 @@
 -- Two passes over the cells that the split of an inter block fills; or, where nothing is split, the block of one transform, which is recorded the same.
 use Rattle.mask_edges.proofs.BlockPasses.{cells-asked, cells-both, context-taken}
 use Rattle.mask_edges.proofs.CellTables.{from-zeros, told-columns, told-rows}
-use Rattle.mask_edges.proofs.Whole.{whole-at, split-inter, whole-luma}
+use Rattle.mask_edges.proofs.UnsplitInter.{whole-at, split-inter, whole-luma}
 use Rattle.mask_edges.specs.Folds.{stores}
 use Rattle.decomp.specs.Cells.{Covers}
 use Rattle.units.proofs.Rules.{tx-rule}

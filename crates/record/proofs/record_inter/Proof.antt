@@ -1,21 +1,18 @@
--- A number other than 0 stores nothing; 0 gives what luma and then chroma ask, and each stores its part.
-use denote.Ref.{now}
-use borrow.Author.Tests.{ne-eqb}
+-- `record_inter` meets its contract: it is the block of its arguments, recorded.
+use mathlib.Core.Bool.{false≢true}
+use mathlib.Core.Path.{sym}
+use Rattle.record.proofs.SoundBlocks.{flag-low}
 use borrow.Author.Needs.{needs}
-use native.Mathlib.Omega.{arith}
-use mathlib.Core.Path.{_≡_, refl, sym, ap, _∙_}
-use Rattle.record.proofs.SoundBlocks.{sound, reference-in, flag-low, levels-long, masks-long, luma-long, chroma-long}
-use Rattle.record.specs.Record.{interOf, chromaLevels, chromaMasks}
-use Rattle.block.specs.Tests.{number}
-use Rattle.block.specs.Block.{lent}
 use Rattle.record.proofs.record_inter.Statement.{statement}
 use Rattle.record.proofs.record_inter.Tie as tie
 
-cast-t40 : tie.Need-cast-t40
-cast-t40 c = search needs
+cast-t39 : tie.Need-cast-t39
+cast-t39 c = search needs
 
-number-requires : tie.Need-number-requires
-number-requires c κs = search needs
+record-block-requires : tie.Need-record-block-requires
+record-block-requires c κs =
+    let c₁₂ = c .before .before .before .before .before .before .before .before .before .before .before .before in
+    (λ e. absurd (false≢true (sym e)), flag-low (c₁₂ .args .mode))
 
 same-length : tie.Need-same-length
 same-length c = search needs
@@ -36,102 +33,18 @@ same-length-6 : tie.Need-same-length-6
 same-length-6 c = search needs
 
 returns : tie.Need-returns
-returns c = let z = ne-eqb (c .before .number .result) 0 (c .if1 .taken) in
-    record { code = c .before .number .ensures; levels = rw z refl; masks = rw z refl; above = rw z refl; left = rw z refl; above-uv = rw z refl; left-uv = rw z refl }
-
-luma-requires : tie.Need-luma-requires
-luma-requires c κs =
-    let c₄ = c .before .before .before .before in
-    let c₅ = c₄ .before in
-    let c₁₈ = c₅ .before .before .before .before .before .before .before .before .before .before .before .before .before in
-    let g = c₁₈ .args in
-    let b = interOf (g .width) (g .height) (g .layout) (g .x) (g .y) (g .size) (g .tx) (g .chroma) (g .uvtx) (g .skip) (g .reference) (g .mode) in
-    let m = lent (now (g .levels)) (now (g .masks)) (now (g .above)) (now (g .left)) (now (g .above-uv)) (now (g .left-uv)) in
-    let e : number b (g .level-stride) m ≡ 0 = sym (c₅ .number .ensures) ∙ c₄ .if1 .left in (
-      sound b (g .level-stride) m e (reference-in b (g .level-stride) m e refl) (flag-low (g .mode)),
-      levels-long b (g .level-stride) m e .0,
-      levels-long b (g .level-stride) m e .1,
-      masks-long b (g .level-stride) m e,
-      luma-long b (g .level-stride) m e,
-    )
-
-chroma-pair-requires : tie.Need-chroma-pair-requires
-chroma-pair-requires c κs =
-    let c₁₂ = c .before .before .before .before .before .before .before .before .before .before .before .before in
-    let c₁₇ = c₁₂ .before .before .before .before .before in
-    let c₁₈ = c₁₇ .before in
-    let c₃₁ = c₁₈ .before .before .before .before .before .before .before .before .before .before .before .before .before in
-    let g = c₃₁ .args in
-    let b = interOf (g .width) (g .height) (g .layout) (g .x) (g .y) (g .size) (g .tx) (g .chroma) (g .uvtx) (g .skip) (g .reference) (g .mode) in
-    let m = lent (now (g .levels)) (now (g .masks)) (now (g .above)) (now (g .left)) (now (g .above-uv)) (now (g .left-uv)) in
-    let e : number b (g .level-stride) m ≡ 0 = sym (c₁₈ .number .ensures) ∙ c₁₇ .if1 .left in
-    let k = c₁₂ .luma .kept in (
-      sound b (g .level-stride) m e (reference-in b (g .level-stride) m e refl) (flag-low (g .mode)),
-      levels-long b (g .level-stride) m e .0,
-      omega (arith, k, levels-long b (g .level-stride) m e .1),
-      omega (arith, k, masks-long b (g .level-stride) m e),
-      chroma-long b (g .level-stride) m e,
-    )
-
-same-length-7 : tie.Need-same-length-7
-same-length-7 c = search needs
-
-same-length-8 : tie.Need-same-length-8
-same-length-8 c = search needs
-
-same-length-9 : tie.Need-same-length-9
-same-length-9 c = search needs
-
-same-length-10 : tie.Need-same-length-10
-same-length-10 c = search needs
-
-same-length-11 : tie.Need-same-length-11
-same-length-11 c = search needs
-
-same-length-12 : tie.Need-same-length-12
-same-length-12 c = search needs
-
-returns-2 : tie.Need-returns-2
-returns-2 c =
-    let c₈ = c .before .before .before .before .before .before .before .before in
-    let c₂₁ = c₈ .before .before .before .before .before .before .before .before .before .before .before .before .before in
-    let c₂₆ = c₂₁ .before .before .before .before .before in
-    let c₂₇ = c₂₆ .before in
-    let c₄₀ = c₂₇ .before .before .before .before .before .before .before .before .before .before .before .before .before in
-    let g = c₄₀ .args in
-    let b = interOf (g .width) (g .height) (g .layout) (g .x) (g .y) (g .size) (g .tx) (g .chroma) (g .uvtx) (g .skip) (g .reference) (g .mode) in
-    let m = lent (now (g .levels)) (now (g .masks)) (now (g .above)) (now (g .left)) (now (g .above-uv)) (now (g .left-uv)) in
-    let p = c₂₁ .luma .ensures in
-    let q = c₈ .chroma-pair .ensures in
-    record {
-      code = sym (c₂₆ .if1 .left) ∙ c₂₇ .number .ensures;
-      levels = q .0 ∙ ap (chromaLevels b (g .level-stride) (now (g .values))) (p .0);
-      masks = q .1 .0 ∙ ap (chromaMasks b (now (g .above-uv)) (now (g .left-uv))) (p .1 .0);
-      above = p .1 .1 .0;
-      left = p .1 .1 .1;
-      above-uv = q .1 .1 .0;
-      left-uv = q .1 .1 .1;
-    }
+returns c = search needs
 
 pub record-inter-spec : {M : Type 1} → statement M
 record-inter-spec =
     tie.close
     (tie.spec
-    cast-t40
-    number-requires
+    cast-t39
+    record-block-requires
     same-length
     same-length-2
     same-length-3
     same-length-4
     same-length-5
     same-length-6
-    returns
-    luma-requires
-    chroma-pair-requires
-    same-length-7
-    same-length-8
-    same-length-9
-    same-length-10
-    same-length-11
-    same-length-12
-    returns-2)
+    returns)

@@ -1,18 +1,10 @@
--- A number other than 0 stores nothing; 0 gives what luma and then chroma ask, and each stores its part.
-use denote.Ref.{now}
-use borrow.Author.Tests.{ne-eqb}
+-- `record_intra` meets its contract: it is the block of its arguments, recorded; an intra block asks for no split.
 use borrow.Author.Needs.{needs}
-use native.Mathlib.Omega.{arith}
-use mathlib.Core.Path.{_≡_, refl, sym, ap, _∙_}
-use Rattle.record.proofs.SoundBlocks.{sound, levels-long, masks-long, luma-long, chroma-long}
-use Rattle.record.specs.Record.{intraOf, chromaLevels, chromaMasks}
-use Rattle.block.specs.Tests.{number}
-use Rattle.block.specs.Block.{lent}
 use Rattle.record.proofs.record_intra.Statement.{statement}
 use Rattle.record.proofs.record_intra.Tie as tie
 
-number-requires : tie.Need-number-requires
-number-requires c κs = search needs
+record-block-requires : tie.Need-record-block-requires
+record-block-requires c κs = search needs
 
 same-length : tie.Need-same-length
 same-length c = search needs
@@ -33,101 +25,28 @@ same-length-6 : tie.Need-same-length-6
 same-length-6 c = search needs
 
 returns : tie.Need-returns
-returns c = let z = ne-eqb (c .before .number .result) 0 (c .if1 .taken) in
-    record { code = c .before .number .ensures; levels = rw z refl; masks = rw z refl; above = rw z refl; left = rw z refl; above-uv = rw z refl; left-uv = rw z refl }
-
-luma-requires : tie.Need-luma-requires
-luma-requires c κs =
-    let c₅ = c .before .before .before .before .before in
-    let c₆ = c₅ .before in
-    let c₁₉ = c₆ .before .before .before .before .before .before .before .before .before .before .before .before .before in
-    let g = c₁₉ .args in
-    let b = intraOf (g .width) (g .height) (g .layout) (g .x) (g .y) (g .size) (g .tx) (g .chroma) (g .uvtx) in
-    let m = lent (now (g .levels)) (now (g .masks)) (now (g .above)) (now (g .left)) (now (g .above-uv)) (now (g .left-uv)) in
-    let e : number b (g .level-stride) m ≡ 0 = sym (c₆ .number .ensures) ∙ c₅ .if1 .left in (
-      sound b (g .level-stride) m e (omega arith) (omega arith),
-      levels-long b (g .level-stride) m e .0,
-      levels-long b (g .level-stride) m e .1,
-      masks-long b (g .level-stride) m e,
-      luma-long b (g .level-stride) m e,
-    )
-
-chroma-pair-requires : tie.Need-chroma-pair-requires
-chroma-pair-requires c κs =
+returns c =
     let c₁₂ = c .before .before .before .before .before .before .before .before .before .before .before .before in
-    let c₁₈ = c₁₂ .before .before .before .before .before .before in
-    let c₁₉ = c₁₈ .before in
-    let c₃₂ = c₁₉ .before .before .before .before .before .before .before .before .before .before .before .before .before in
-    let g = c₃₂ .args in
-    let b = intraOf (g .width) (g .height) (g .layout) (g .x) (g .y) (g .size) (g .tx) (g .chroma) (g .uvtx) in
-    let m = lent (now (g .levels)) (now (g .masks)) (now (g .above)) (now (g .left)) (now (g .above-uv)) (now (g .left-uv)) in
-    let e : number b (g .level-stride) m ≡ 0 = sym (c₁₉ .number .ensures) ∙ c₁₈ .if1 .left in
-    let k = c₁₂ .luma .kept in (
-      sound b (g .level-stride) m e (omega arith) (omega arith),
-      levels-long b (g .level-stride) m e .0,
-      omega (arith, k, levels-long b (g .level-stride) m e .1),
-      omega (arith, k, masks-long b (g .level-stride) m e),
-      chroma-long b (g .level-stride) m e,
-    )
-
-same-length-7 : tie.Need-same-length-7
-same-length-7 c = search needs
-
-same-length-8 : tie.Need-same-length-8
-same-length-8 c = search needs
-
-same-length-9 : tie.Need-same-length-9
-same-length-9 c = search needs
-
-same-length-10 : tie.Need-same-length-10
-same-length-10 c = search needs
-
-same-length-11 : tie.Need-same-length-11
-same-length-11 c = search needs
-
-same-length-12 : tie.Need-same-length-12
-same-length-12 c = search needs
-
-returns-2 : tie.Need-returns-2
-returns-2 c =
-    let c₈ = c .before .before .before .before .before .before .before .before in
-    let c₂₁ = c₈ .before .before .before .before .before .before .before .before .before .before .before .before .before in
-    let c₂₇ = c₂₁ .before .before .before .before .before .before in
-    let c₂₈ = c₂₇ .before in
-    let c₄₁ = c₂₈ .before .before .before .before .before .before .before .before .before .before .before .before .before in
-    let g = c₄₁ .args in
-    let b = intraOf (g .width) (g .height) (g .layout) (g .x) (g .y) (g .size) (g .tx) (g .chroma) (g .uvtx) in
-    let m = lent (now (g .levels)) (now (g .masks)) (now (g .above)) (now (g .left)) (now (g .above-uv)) (now (g .left-uv)) in
-    let p = c₂₁ .luma .ensures in
-    let q = c₈ .chroma-pair .ensures in
+    let a = c₁₂ .record-block .ensures in
     record {
-      code = sym (c₂₇ .if1 .left) ∙ c₂₈ .number .ensures;
-      levels = q .0 ∙ ap (chromaLevels b (g .level-stride) (now (g .values))) (p .0);
-      masks = q .1 .0 ∙ ap (chromaMasks b (now (g .above-uv)) (now (g .left-uv))) (p .1 .0);
-      above = p .1 .1 .0;
-      left = p .1 .1 .1;
-      above-uv = q .1 .1 .0;
-      left-uv = q .1 .1 .1;
+      code = a .code;
+      levels = a .levels;
+      masks = a .masks;
+      above = a .above;
+      left = a .left;
+      above-uv = a .above-uv;
+      left-uv = a .left-uv;
     }
 
 pub record-intra-spec : {M : Type 1} → statement M
 record-intra-spec =
     tie.close
     (tie.spec
-    number-requires
+    record-block-requires
     same-length
     same-length-2
     same-length-3
     same-length-4
     same-length-5
     same-length-6
-    returns
-    luma-requires
-    chroma-pair-requires
-    same-length-7
-    same-length-8
-    same-length-9
-    same-length-10
-    same-length-11
-    same-length-12
-    returns-2)
+    returns)

@@ -6,7 +6,7 @@ use borrow.Author.Needs.{needs}
 use lib.ListN.{length}
 use Rattle.bits.specs.Walk.{ahead}
 use Rattle.bits.proofs.Walks.{ahead-falls}
-use Rattle.walk.proofs.Moves.{Moved, Turn, Room, start, masks-fit, turn, finished, room, len-is, level-is, level-in, asked-16, on-clear, on-set}
+use Rattle.walk.proofs.WalkLoop.{Moved, Turn, Room, start, masks-fit, turn, finished, room, len-is, level-is, level-in, asked-16, on-clear, on-set}
 use Rattle.walk.proofs.walk_16.Statement.{statement}
 use Rattle.walk.proofs.walk_16.Tie as tie
 

@@ -2,7 +2,7 @@
 use mathlib.Core.Path.{refl}
 use native.Mathlib.Omega.{arith}
 use borrow.Author.Needs.{needs}
-use Rattle.loops.proofs.Lists.{prod-le}
+use Rattle.loops.proofs.Products.{prod-le}
 use Rattle.edges.proofs.bit.record_bit.Statement.{statement}
 use Rattle.edges.proofs.bit.record_bit.Tie as tie
 

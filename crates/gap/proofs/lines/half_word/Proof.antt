@@ -4,7 +4,7 @@ use Prim.Native.Nat.{ℕ, _-_, _^_}
 use native.Mathlib.Nat.{add-zero}
 use native.Mathlib.Omega.{arith}
 use borrow.Author.Needs.{needs}
-use Rattle.gap.proofs.Runs.{run-fits}
+use Rattle.gap.proofs.LineBits.{run-fits}
 use Rattle.gap.proofs.lines.half_word.Statement.{statement}
 use Rattle.gap.proofs.lines.half_word.Tie as tie
 

@@ -1,6 +1,6 @@
 -- `line_word` meets its contract: its two halves make `lineWord`.
 use borrow.Author.Needs.{needs}
-use Rattle.gap.proofs.Runs.{word-make}
+use Rattle.gap.proofs.LineBits.{word-make}
 use Rattle.gap.proofs.lines.line_word.Statement.{statement}
 use Rattle.gap.proofs.lines.line_word.Tie as tie
 

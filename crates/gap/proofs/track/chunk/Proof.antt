@@ -5,7 +5,7 @@ use native.Mathlib.Omega.{arith}
 use borrow.Author.Needs.{needs}
 use Rattle.gap.specs.Track.{runT}
 use Rattle.gap.proofs.Walks.{run-more}
-use Rattle.gap.proofs.Cells.{unit-in, few-units}
+use Rattle.gap.proofs.StoredWords.{unit-in, few-units}
 use Rattle.gap.proofs.track.chunk.Statement.{statement}
 use Rattle.gap.proofs.track.chunk.Tie as tie
 

@@ -4,7 +4,7 @@ use Prim.Native.Nat.{ℕ, _*_}
 use native.Mathlib.Omega.{arith}
 use borrow.Author.Needs.{needs}
 use Rattle.units.specs.Masks.{unitWords}
-use Rattle.gap.proofs.Cells.{class-in, last-in, some-class, few-classes, class-word, no-class}
+use Rattle.gap.proofs.StoredWords.{class-in, last-in, some-class, few-classes, class-word, no-class}
 use Rattle.gap.proofs.track.class_word.Statement.{statement}
 use Rattle.gap.proofs.track.class_word.Tie as tie
 

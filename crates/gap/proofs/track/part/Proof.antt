@@ -5,7 +5,7 @@ use Prim.Native.Nat.{_+_, _-_}
 use native.Mathlib.Omega.{arith}
 use borrow.Author.Needs.{needs}
 use Rattle.gap.specs.Track.{runT, partT}
-use Rattle.gap.proofs.Cells.{few-units, fewer-units}
+use Rattle.gap.proofs.StoredWords.{few-units, fewer-units}
 use Rattle.gap.proofs.track.part.Statement.{statement}
 use Rattle.gap.proofs.track.part.Tie as tie
 

@@ -4,7 +4,7 @@ use borrow.Author.Needs.{needs}
 use native.Mathlib.Omega.{arith}
 use mathlib.Core.Path.{refl}
 use Rattle.units.specs.Frame.{records}
-use Rattle.loops.proofs.Lists.{prod-le}
+use Rattle.loops.proofs.Products.{prod-le}
 use Rattle.record.proofs.masks.record_at.Statement.{statement}
 use Rattle.record.proofs.masks.record_at.Tie as tie
 

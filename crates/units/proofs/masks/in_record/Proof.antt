@@ -1,7 +1,7 @@
 -- `in_record` meets its contract; the product of two small numbers fits.
 use native.Mathlib.Omega.{arith}
 use borrow.Author.Needs.{needs}
-use Rattle.loops.proofs.Lists.{prod-le}
+use Rattle.loops.proofs.Products.{prod-le}
 use Rattle.units.proofs.masks.in_record.Statement.{statement}
 use Rattle.units.proofs.masks.in_record.Tie as tie
 

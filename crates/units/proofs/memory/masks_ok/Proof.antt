@@ -5,7 +5,7 @@ use Prim.Native.Nat.{ℕ, _*_}
 use borrow.Author.Needs.{needs}
 use native.Mathlib.Omega.{arith}
 use lib.Dec.{leb}
-use Rattle.loops.proofs.Lists.{prod-le}
+use Rattle.loops.proofs.Products.{prod-le}
 use Rattle.units.proofs.memory.masks_ok.Statement.{statement}
 use Rattle.units.proofs.memory.masks_ok.Tie as tie
 

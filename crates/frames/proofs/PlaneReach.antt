@@ -19,9 +19,9 @@ use Rattle.apply.specs.Apply.{shown}
 use Rattle.frames.specs.Within.{WithinRow, Agree}
 use Rattle.frames.specs.Calls.{Frame, callAt, answer, after, planes}
 use Rattle.frames.specs.Promises.{Reaches}
-use Rattle.frames.proofs.Regions.{sweep-outside, sweep-inside}
+use Rattle.frames.proofs.CallReach.{sweep-outside, sweep-inside}
 use Rattle.frames.proofs.Sweeps.{shown-case}
-use Rattle.frames.proofs.Stays.{Done, done, sweepCall, after-done, after-refused}
+use Rattle.frames.proofs.NumbersKept.{Done, done, sweepCall, after-done, after-refused}
 
 -- one plane, in a call that is done
 record Near (P : Plane) (w r : ℕ) (d : Pass) (k : ℕ) (s : List ℕ) (g : List ℕ → List ℕ) : Type 0 where

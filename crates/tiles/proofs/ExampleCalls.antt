@@ -16,7 +16,7 @@ use Rattle.correct.specs.Tests as fixes
 use Rattle.drawn.specs.Calls.{Records}
 use Rattle.tiles.specs.Tiles.{Corrected, done, fix}
 use Rattle.tiles.specs.Example.{call, fresh, clear, fixOf}
-use Rattle.tiles.proofs.Calls.{next, records}
+use Rattle.tiles.proofs.ComputedCalls.{next, records}
 
 abbrev pub between : Lent
 between = next 20 (call 0 1 0) clear

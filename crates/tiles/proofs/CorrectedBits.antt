@@ -21,10 +21,10 @@ use Rattle.correct.specs.Start.{gridAt, begin, first, Inside}
 use Rattle.correct.specs.Answer.{CorrectAnswer}
 use Rattle.correct.specs.Promises.{CorrectedUnit, bitAt, Promised}
 use Rattle.correct.proofs.Starts.{proper, shaped, inside-is}
-use Rattle.correct.proofs.Corrected.{across-in, end-in, all-passed}
+use Rattle.correct.proofs.AcceptedStart.{across-in, end-in, all-passed}
 use Rattle.correct.proofs.AnswerLaws as told
 use Rattle.drawn.proofs.Bits.{passes-apart}
-use Rattle.drawn.proofs.Corrects.{new-class}
+use Rattle.drawn.proofs.CorrectedStart.{new-class}
 use Rattle.tiles.specs.Tiles.{Fix, Corrected, done, fix, Fixes, keptAt, Never, FixedOnce}
 
 -- ---- one correction

@@ -13,7 +13,7 @@ use Rattle.plane.specs.Line.{Pass, columns, rows, other}
 use Rattle.units.specs.Units.{chromaUnit, chromaUnits}
 use Rattle.units.proofs.Places.{ss-hor-le, ss-ver-le}
 use Rattle.edges.specs.Edges.{Grid, lumaGrid, chromaGrid}
-use Rattle.decomp.proofs.Tiles.{txAt-same}
+use Rattle.decomp.proofs.UnitsOfTransform.{txAt-same}
 use Rattle.mask_edges.specs.Recording.{intraBlock, interBlock}
 use Rattle.block.specs.declared.Block.{Block}
 use Rattle.block.specs.Block.{w4, h4, blockWidth, blockHeight, ss-hor, ss-ver, bw4, bh4, cbw4, cbh4, seesLuma, seesChroma, Lent}

@@ -7,7 +7,7 @@ use native.Mathlib.Decide.{ℕ-discrete, decLt, decLe}
 use native.Mathlib.Nat.{div-add-mod', mod-lt, mul-mod-left, mul-le-mul-right, suc-mul}
 use native.Mathlib.Omega.{arith}
 use borrow.Author.Tests.{lt-ltb}
-use Rattle.loops.proofs.Lists.{row-in}
+use Rattle.loops.proofs.Products.{row-in}
 use Rattle.plane.specs.Gap.{Mark, an-edge, the-start, the-end, a-boundary, Neighbours, Allowed, GapRule}
 use Rattle.gap.specs.Numbers.{part}
 use Rattle.gap.specs.Promises.{Nowhere}

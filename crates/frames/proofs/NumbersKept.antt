@@ -32,7 +32,7 @@ use Rattle.apply.specs.Apply.{componentOf, tablesOf, passCall}
 use Rattle.apply.proofs.ReadyPlanes.{ready, deep, under}
 use Rattle.frames.specs.Within.{WithinRow}
 use Rattle.frames.specs.Calls.{Frame, callAt, lentOf, answer, planes, after}
-use Rattle.frames.proofs.Regions.{fair, sweep-outside}
+use Rattle.frames.proofs.CallReach.{fair, sweep-outside}
 use Rattle.frames.proofs.Sweeps.{shown-case}
 
 -- ---- what a number sees of the samples

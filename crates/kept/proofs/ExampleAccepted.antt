@@ -24,8 +24,8 @@ use Rattle.frames.specs.Calls.{callAt, answer, Accepted}
 use Rattle.checks.specs.Tests.{levelsBad, planeBad, number}
 use Rattle.kept.specs.Holds.{HoldsEdges}
 use Rattle.kept.specs.Example.{decoded, head, zeros, samples}
-use Rattle.kept.proofs.Keeps.{eleven}
-use Rattle.kept.proofs.Recorded.{after, frame}
+use Rattle.kept.proofs.GapOfHeld.{eleven}
+use Rattle.kept.proofs.ExampleCalls.{after, frame}
 
 levels-long : length (after .levels) ≡ 32
 unfolding fillLevels fillRow levelAt Num_4x4_Blocks_Wide Num_4x4_Blocks_High bw4 bh4 cbw4 cbh4

@@ -7,7 +7,7 @@ use native.Mathlib.Nat.{zero-mod}
 use native.Mathlib.Omega.{arith}
 use lib.Dec.{eqb}
 use Rattle.loops.specs.Run.{All}
-use Rattle.loops.proofs.Closed.{all-at}
+use Rattle.loops.proofs.ReadApart.{all-at}
 use Rattle.bits.specs.Mark.{isSet}
 use Rattle.standard.specs.Edge.{Frame}
 use Rattle.plane.specs.Line.{Pass, Piece, other}

@@ -18,7 +18,7 @@ use Rattle.block.specs.Tests.{number}
 use Rattle.record.specs.Record.{fillLevels, fillRow, inRecord}
 use Rattle.frames.specs.Calls.{Frame}
 use Rattle.drawn.specs.Calls.{Records}
-use Rattle.tiles.proofs.Calls.{next, records}
+use Rattle.tiles.proofs.ComputedCalls.{next, records}
 use Rattle.kept.specs.Example.{call, clear, head}
 
 abbrev pub between : Lent

@@ -23,7 +23,7 @@ use Rattle.agree.proofs.Marked.{no-unit}
 use Rattle.drawn.specs.Run.{contextIn, Unchanged}
 use Rattle.drawn.specs.Calls.{atBlock, RecordCall, Records, lumaState, chromaState, lumaUnits, chromaUnitsOf}
 use Rattle.drawn.proofs.Calls.{luma-shape, no-chroma}
-use Rattle.drawn.proofs.Chromas.{no-luma}
+use Rattle.drawn.proofs.ChromaCalls.{no-luma}
 
 module _ (q : RecordCall) (level-stride : ℕ) (m n : Lent) (R : Records level-stride q m n) where
   abbrev K : Block

@@ -28,8 +28,8 @@ use Rattle.gap.specs.Numbers.{halfBit, fits, badHalf}
 use Rattle.gap.specs.Track.{cut, track, Answers}
 use Rattle.gap.proofs.Answers.{answer-gap, answer-out}
 use Rattle.gap.proofs.Masks.{along, edge-bit, fits-in, fits-out}
-use Rattle.gap.proofs.Runs.{iff, line-in, line-out, line-lt, has-line, bitOf-half, bitOf-bit, bitOf-lt, any-lines, any-halves, any-first}
-use Rattle.gap.proofs.Slices.{lineOf}
+use Rattle.gap.proofs.LineBits.{iff, line-in, line-out, line-lt, has-line, bitOf-half, bitOf-bit, bitOf-lt, any-lines, any-halves, any-first}
+use Rattle.gap.proofs.LinesAtOnce.{lineOf}
 
 -- ---- the classes of a kind: three, or two
 
