@@ -43,12 +43,14 @@ same-length : tie.Need-same-length
 same-length c = search needs
 
 returns : tie.Need-returns
-returns c = (
-  take-put (c .before .before .before .before .before .before .before .before .before .args .held)
-      (c .before .before .before .before .before .before .before .before .before .args .held + c .before .before .before .before .before .before .before .least .result - c .before .before .before .before .before .before .before .before .before .args .held) (c .before .before .before .before .before .before .before .before .before .args .buf .now) (c .before .before .before .before .before .read .last .1 .0) (c .before .before .before .before .before .before .before .before .before .pre),
-  omega (arith, c .count .ensures .0, c .before .before .before .before .before .before .before .least .ensures, c .before .before .before .before .before .before .before .before .before .pre),
-  omega (arith, c .count .ensures .0),
-)
+returns c =
+    let c₅ = c .before .before .before .before .before in
+    let c₇ = c₅ .before .before in
+    let c₉ = c₇ .before .before in (
+      take-put (c₉ .args .held) (c₉ .args .held + c₇ .least .result - c₉ .args .held) (c₉ .args .buf .now) (c₅ .read .last .1 .0) (c₉ .pre),
+      omega (arith, c .count .ensures .0, c₇ .least .ensures, c₉ .pre),
+      omega (arith, c .count .ensures .0),
+    )
 
 pub read-more-spec : {M : Type 1} → statement M
 read-more-spec =

@@ -11,20 +11,24 @@ use Rattle.block.specs.Block.{cbw4, cbh4, seesChroma}
 use Rattle.block.proofs.TestsPassed.{seen-as, and-on}
 use Rattle.record.proofs.NearBlocks.{chroma-near, context-put}
 use borrow.Author.Needs.{needs}
+use native.Mathlib.Omega.{arith}
 use Rattle.record.proofs.chroma_pair.Statement.{statement}
 use Rattle.record.proofs.chroma_pair.Tie as tie
 
-sees : (d : tie.Else2) → seesChroma (d .before .before .before .before .before .before .before .before .before .before .args .b) ≡ true
+abbrev begun : tie.Else2 → tie.Start
+begun d = d .before .before .before .before .before .before .before .before .before .before
+
+sees : (d : tie.Else2) → seesChroma (begun d .args .b) ≡ true
 sees d =
-    let b = d .before .before .before .before .before .before .before .before .before .before .args .b in
+    let b = begun d .args .b in
     let s = seen-as _ _ (cbw4 b) (cbh4 b) _ (d .before .seen .ensures) (d .before .before .before .chroma-wide .ensures) (d .before .before .chroma-high .ensures) in
     and-on (b .chroma) _ (not-false _ (d .before .before .before .before .if1 .left)) (sym s ∙ not-false _ (d .if2 .left))
 
 room : (d : tie.Else2)
-    → (d .before .before .before .chroma-wide .result .0 ≤ length (now (d .before .before .before .before .before .before .before .before .before .before .args .above)))
-    × (d .before .before .chroma-high .result .0 ≤ length (now (d .before .before .before .before .before .before .before .before .before .before .args .left)))
-room d = let n = d .before .before .before .before .before .before .before .before .before .before .pre .4 (sees d) in
-    (rw (d .before .before .before .chroma-wide .ensures) (n .0), rw (d .before .before .chroma-high .ensures) (n .1))
+    → (d .before .before .before .chroma-wide .result .0 ≤ length (now (begun d .args .above)))
+    × (d .before .before .chroma-high .result .0 ≤ length (now (begun d .args .left)))
+room d = let n = begun d .pre .4 (sees d) in
+    (omega (arith, d .before .before .before .chroma-wide .ensures, n .0), omega (arith, d .before .before .chroma-high .ensures, n .1))
 
 returns : tie.Need-returns
 returns c = rw (not-true (c .before .before .before .before .before .before .args .b .chroma) (c .if1 .taken)) (refl, (refl, (refl, refl)))
@@ -102,7 +106,7 @@ returns-3 c =
     let c₁₂ = c₆ .before .before .before .before .before .before in
     let d = c .before .before .before .before .before .before .before .before .before .before .before .before .before .before in
     let a = d .before .before .before .before .before .before .before .before .before .before .args in
-    let n = d .before .before .before .before .before .before .before .before .before .before .pre .4 (sees d) in
+    let n = begun d .pre .4 (sees d) in
     let w = d .before .before .before .chroma-wide .ensures in
     let h = d .before .before .chroma-high .ensures in
     let e = c₆ .chroma-masks .ensures in (
