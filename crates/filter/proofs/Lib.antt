@@ -7,7 +7,7 @@ pub mod UnitActs
 -- What its walk asks for
 pub mod PieceRooms
 pub mod Ranges
--- The lines of a recordUnits, and the groups of a row
-pub mod Groups
+-- The lines of a record, and the records of a row
+pub mod RecordLines
 -- What holds of a pass
 pub mod Sweeps

@@ -112,7 +112,7 @@ module _ (c : Component) (d : Pass) (k rec a : ℕ) where
     near = go d unit-lt
       where
         left : rec * (32 / 2 ^ c .«ss_hor») ≤ 4096
-        left = left-le (c .«ss_hor») rec (f .proper .ss-hor-le) (omega (arith, f .recordUnits, f .width))
+        left = left-le (c .«ss_hor») rec (f .proper .ss-hor-le) (omega (arith, f .rec-in, f .width))
 
         top : k * chromaUnit (c .«ss_ver») (c .sb4 .0) < 4096
         top = rows-le (c .«ss_ver») k (c .sb4 .0) 4096 _ (f .proper .ss-ver-le) (f .row) refl
@@ -145,9 +145,9 @@ module _ (c : Component) (d : Pass) (k rec a : ℕ) where
     class-is : (class w : ℕ) → w ≡ classAt ms (eqb (c .plane) 0) m first n h class → w ≡ wordOf c ms d k rec a class
     class-is class w e = e ∙ (λ j. classAt ms (eqb (c .plane) 0) (em j) (ef j) (en j) (eh j) class)
 
-    pub line-make : (q m0 m1 m2 at : ℕ) → q ≡ 4 * (y * c .stride + x) → m0 ≡ classAt ms (eqb (c .plane) 0) m first n h 0
-        → m1 ≡ classAt ms (eqb (c .plane) 0) m first n h 1 → m2 ≡ classAt ms (eqb (c .plane) 0) m first n h 2 → at ≡ levelAt (c .«level_stride») x y (areaOf c d)
-        → _≡_ {A = UnitLine}
+    pub line-make : (q m0 m1 m2 classes at : ℕ) → q ≡ 4 * (y * c .stride + x) → m0 ≡ classAt ms (eqb (c .plane) 0) m first n h 0
+        → m1 ≡ classAt ms (eqb (c .plane) 0) m first n h 1 → m2 ≡ classAt ms (eqb (c .plane) 0) m first n h 2 → classes ≡ cond (eqb (c .plane) 0) 3 2
+        → at ≡ levelAt (c .«level_stride») x y (areaOf c d) → _≡_ {A = UnitLine}
         (record {
           q = q;
           «line_step» = lineStep d (c .stride);
@@ -155,13 +155,13 @@ module _ (c : Component) (d : Pass) (k rec a : ℕ) where
           m0 = m0;
           m1 = m1;
           m2 = m2;
-          luma = eqb (c .plane) 0;
+          classes = classes;
           at = at;
           along = alongStep c d;
           back = backStep c d;
         })
         (lineIn c ms d k rec a)
-    line-make q m0 m1 m2 at eq e0 e1 e2 el =
+    line-make q m0 m1 m2 classes at eq e0 e1 e2 ec el =
         let fq : q ≡ 4 * (topOf c d k a * c .stride + leftOf c d rec a) = eq ∙ ap₂ (λ (v u : ℕ). 4 * (v * c .stride + u)) ey ex in
         let fl : at ≡ levelAt (c .«level_stride») (leftOf c d rec a) (topOf c d k a) (areaOf c d) = el
         ∙ ap₂ (λ (u v : ℕ). levelAt (c .«level_stride») u v (areaOf c d)) ex ey in
@@ -172,7 +172,7 @@ module _ (c : Component) (d : Pass) (k rec a : ℕ) where
           m0 = class-is 0 m0 e0 j;
           m1 = class-is 1 m1 e1 j;
           m2 = class-is 2 m2 e2 j;
-          luma = eqb (c .plane) 0;
+          classes = ec j;
           at = fl j;
           along = alongStep c d;
           back = backStep c d;

@@ -8,7 +8,7 @@ use Prim.Native.Nat.{ℕ, zero, suc, _+_, _-_, _*_, _≤_, _<_}
 use native.Mathlib.Decide.{decLt}
 use native.Mathlib.Nat.{add-mul, suc-mul, zero-mul, mul-comm, mul-le-mul-left, mul-le-mul-right}
 use native.Mathlib.Omega.{arith}
-use lib.Dec.{eqb}
+use lib.Dec.{eqb, ltb}
 use lib.ListN.{length, getD}
 use borrow.Author.Tests.{lt-ltb}
 use Rattle.bits.specs.Bit.{hasBit}
@@ -37,7 +37,7 @@ use Rattle.filter.specs.Ready.{Stored, Fit}
 use Rattle.filter.specs.Lines.{unitAt, alongStep, lineIn, Inner}
 use Rattle.filter.proofs.UnitPlaces.{firstPlace, places, row-sizes}
 use Rattle.filter.proofs.Words.{picked, none-over}
-use Rattle.filter.proofs.UnitActs.{reads-is, index-is, level-place, before-place}
+use Rattle.filter.proofs.UnitActs.{reads-is, len-in, index-is, level-place, before-place}
 
 reach : (b : Bool) → Reach (cond b luma chroma .reads)
 reach true = fair-luma .reach
@@ -210,11 +210,11 @@ module _ (c : Component) (t : Tables) (d : Pass) (k rec a len : ℕ) (s : Stored
 
     pub reads-at : Reads c d k rec a v (reads (lenAt U v))
     reads-at =
-        let e = reads-is (eqb (c .plane) 0) (walk.highest (U .m1) (U .m2) v) in
+        let e = reads-is (eqb (c .plane) 0) (walk.highest (U .m1) (U .m2) v) ∙ ap reads (len-in (eqb (c .plane) 0) (walk.highest (U .m1) (U .m2) v)) in
         let x = edge-in (gridOf c) (t .masks) d (unitAt c d k rec a, firstPlace c d k rec + v) (walk.highest (U .m1) (U .m2) v) is-edge in
         let w = gap-reads c t k rec a len s v (walk.highest (U .m1) (U .m2) v) d f i in-place is-edge in
         record {
-          some = some-read (eqb (c .plane) 0) (walk.highest (U .m1) (U .m2) v);
+          some = some-read (ltb 2 (U .classes)) (walk.highest (U .m1) (U .m2) v);
           start = omega (arith, e, w .0);
           end = omega (arith, e, w .1);
           across = x .0;

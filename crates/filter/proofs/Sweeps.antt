@@ -31,7 +31,7 @@ use Rattle.filter.proofs.UnitPlaces.{places-le}
 use Rattle.filter.proofs.UnitActs.{reads-is, act-visit, line-walked}
 use Rattle.filter.proofs.PieceRooms.{walkable}
 use Rattle.filter.proofs.Ranges.{in-range, stays}
-use Rattle.filter.proofs.Groups.{at-start, past-end}
+use Rattle.filter.proofs.RecordLines.{at-start, past-end}
 
 -- ---- the plane's passes, and their length
 
@@ -87,7 +87,7 @@ module _ (c : Component) (t : Tables) (d : Pass) (p : Piece) (s : List ℕ) (h :
           (subst (λ (n : ℕ). PieceUnder (2 ^ t .depth) n (lineStep d (c .stride)) (sampleStep d (c .stride)) (ix d (c .stride) (4 * p .1) (4 * p .0)) s) r (x .1)) j l)
       go none e = rw (idle (planeOf c t) d p e s) l
 
-module _ (c : Component) (t : Tables) (k len j : ℕ) (sample-step : Stored c t len) (w : (i : ℕ) → getD (t .masks) i 0 < 65536) (h : 8 ≤ t .depth) where
+module _ (c : Component) (t : Tables) (k len j : ℕ) (stored : Stored c t len) (w : (i : ℕ) → getD (t .masks) i 0 < 65536) (h : 8 ≤ t .depth) where
   -- what a line keeps
   abbrev Low : Pass → List ℕ → Type 0
   Low d s = (length s ≡ len) × Under (2 ^ t .depth) c d k s × (getD s j 0 < 2 ^ t .depth)
@@ -100,8 +100,8 @@ module _ (c : Component) (t : Tables) (k len j : ℕ) (sample-step : Stored c t 
     walk-range : (rec a : ℕ) (s : List ℕ) → Inner c d k rec a → Low d s → Low d (lineOf (planeOf c t) d k rec a s)
     unfolding walked
     walk-range rec a s i b =
-        let S : Stored c t (length s) = subst (Stored c t) (sym (b .0)) sample-step in
-        let e = line-walked c t k rec a len sample-step d f i w (places-le c t k rec a len sample-step d) s in (
+        let S : Stored c t (length s) = subst (Stored c t) (sym (b .0)) stored in
+        let e = line-walked c t k rec a len stored d f i w (places-le c t k rec a len stored d) s in (
           line-keeps len (planeOf c t) d k rec a s (b .0),
           subst (Under (2 ^ t .depth) c d k) (sym e) (stays c t d k rec a s S f i w h (b .1)),
           subst (λ (l : List ℕ). getD l j 0 < 2 ^ t .depth) (sym e)
@@ -113,7 +113,7 @@ module _ (c : Component) (t : Tables) (k len j : ℕ) (sample-step : Stored c t 
     line-range rec a lg la s b =
         by-cases (ℕ-discrete (unitAt c d k rec a) 0) (λ e. subst (Low d) (sym (at-start c t d k rec a s e)) b)
         (λ n. by-cases (decLt (unitAt c d k rec a) (unitsOf (gridOf c) d))
-        (λ x. walk-range rec a s (record { recordUnits = lg; unit = inside d rec a la x; first = omega arith }) b)
+        (λ x. walk-range rec a s (record { rec-in = lg; unit = inside d rec a la x; first = omega arith }) b)
         (λ x. subst (Low d) (sym (past-end c t d k rec a s (omega arith))) b))
 
     row-range : (s : List ℕ) → Low d s → Low d (sweepOf (planeOf c t) d k s)
@@ -123,7 +123,7 @@ module _ (c : Component) (t : Tables) (k len j : ℕ) (sample-step : Stored c t 
 sweep-range : (c : Component) (t : Tables) (d : Pass) (k : ℕ) (s : List ℕ) → Stored c t (length s) → Fit c t d k → Words (t .masks) → 8 ≤ t .depth
     → Under (2 ^ t .depth) c d k s → (j : ℕ) → getD s j 0 < 2 ^ t .depth → getD (sweepOf (planeOf c t) d k s) j 0 < 2 ^ t .depth
 unfolding Words
-sweep-range c t d k s sample-step f w h b j l = row-range c t k (length s) j sample-step w h d f s (refl, b, l) .2
+sweep-range c t d k s stored f w h b j l = row-range c t k (length s) j stored w h d f s (refl, b, l) .2
 
 pub promises : Promises
 promises =

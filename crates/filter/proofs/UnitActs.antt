@@ -19,7 +19,7 @@ use Rattle.line.specs.Width.{reads, writes}
 use Rattle.units.specs.Memory.{levelAt}
 use Rattle.view.specs.Level.{levelUsed}
 use Rattle.walk.specs.declared.UnitLine.{UnitLine}
-use Rattle.walk.specs.Walk.{thresholds, lenOf, setIn, visit, visitAt, walked}
+use Rattle.walk.specs.Walk.{thresholds, lenOf, lenIn, setIn, visit, visitAt, walked}
 use Rattle.walk.specs.Walk as walk
 use Rattle.filter.specs.declared.Component.{Component}
 use Rattle.filter.specs.Filter.{Tables, areaOf, before, levelOf, planeOf, lineOf}
@@ -43,6 +43,10 @@ writes-is true (suc zero) = refl
 writes-is true (suc (suc class)) = refl
 writes-is false zero = refl
 writes-is false (suc class) = refl
+
+pub len-in : (b : Bool) (class : ℕ) → lenOf b class ≡ lenIn (cond b 3 2) class
+len-in true class = refl
+len-in false class = refl
 
 -- a rule that is not to be used changes nothing
 unused : (z : Bool) (r : Rule) (n m line-step sample-step q : ℕ) (s : List ℕ) → n ≡ r .reads → m ≡ r .writes
@@ -123,6 +127,8 @@ module _ (c : Component) (t : Tables) (k rec a : ℕ) where
             → act (planeOf c t) d (unitAt c d k rec a, firstPlace c d k rec + v) l ≡ cond b (visitAt (t .depth) (t .e) (t .i) (t .levels) U v l) l
         go true e =
             act-visit c t d (unitAt c d k rec a, firstPlace c d k rec + v) _ e l
+            ∙ ap (λ (n : ℕ). visit (t .depth) (t .e) (t .i) (U .«line_step») (U .«sample_step») n (levelOf c t d (unitAt c d k rec a, firstPlace c d k rec + v))
+            (ix d (c .stride) (4 * (firstPlace c d k rec + v)) (4 * unitAt c d k rec a)) l) (len-in (eqb (c .plane) 0) (walk.highest (U .m1) (U .m2) v))
             ∙ ap₂ (λ (x y : ℕ). visit (t .depth) (t .e) (t .i) (U .«line_step») (U .«sample_step») (walk.lenAt U v) x y l) (level-is v) (index-is c k rec a v d)
         go false e = idle (planeOf c t) d (unitAt c d k rec a, firstPlace c d k rec + v) e l
 

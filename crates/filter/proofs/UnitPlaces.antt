@@ -18,7 +18,7 @@ use Rattle.filter.specs.Filter.{Tables, gridOf}
 use Rattle.filter.specs.Ready.{Stored}
 use Rattle.filter.specs.Lines.{topOf, unitAt, unitIn, startHalf, halvesOf, Inner}
 
--- the record of row k and recordUnits rec, by its numbers across the pass and along it
+-- the record of row k and record rec, by its numbers across the pass and along it
 abbrev pub recAcross : Component → Pass → ℕ → ℕ → ℕ
 recAcross c columns k rec = rec
 recAcross c rows k rec = recordRow (c .sb4 .0) k
@@ -70,7 +70,7 @@ module _ (c : Component) (t : Tables) (k rec a len : ℕ) (s : Stored c t len) w
         two = h .two;
         some = w .1;
         many = w .0;
-        mine = omega (arith, i .unit, i .recordUnits, mul-le-mul-right (side G columns) (i .recordUnits), add-mul rec 1 (side G columns));
+        mine = omega (arith, i .unit, i .rec-in, mul-le-mul-right (side G columns) (i .rec-in), add-mul rec 1 (side G columns));
         halves = λ j b. (omega (arith, h .halfNo), omega (arith, h .halfNo, add-mul k 1 (c .sb4 .0 / 16)));
         inside = omega (arith, i .unit);
       }
@@ -91,7 +91,7 @@ module _ (c : Component) (t : Tables) (k rec a len : ℕ) (s : Stored c t len) w
         some = omega arith;
         many = sym (along G (s .proper) rows .two);
         mine = (omega arith, omega (arith, i .unit, add-mul k 1 (chromaUnit (c .«ss_ver») (c .sb4 .0))));
-        halves = λ j b. omega (arith, i .recordUnits);
+        halves = λ j b. omega (arith, i .rec-in);
         inside = omega (arith, i .unit);
       }
 

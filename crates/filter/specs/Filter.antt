@@ -9,7 +9,7 @@
 --   levelOf c t d p          the level used there
 --   ruleOf c t d cls p       what the piece at p does to a line: nothing at level 0
 --   planeOf c t              the plane
---   firstAcross, firstAlong, across, along, sweepOf     colsOf and rowsOf in one: in each recordUnits the units across the pass, at each the units along it
+--   firstAcross, firstAlong, across, along, sweepOf     colsOf and rowsOf in one: in each record the units across the pass, at each the units along it
 use mathlib.Core.Bool.{cond}
 use mathlib.Core.List.{List, []}
 use Prim.Native.Nat.{ℕ, suc, _+_, _-_, _*_}

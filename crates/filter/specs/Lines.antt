@@ -1,4 +1,4 @@
--- One line of units of superblock row k and recordUnits rec as it is walked, the a-th across the pass.
+-- One line of units of superblock row k and record rec as it is walked, the a-th across the pass.
 --   leftOf, topOf           its first unit, to the right and down
 --   unitAt                  its place across the pass
 --   acrossOf, unitsAcross   how many such lines there are, and how many of them lie in the frame
@@ -11,7 +11,7 @@
 --   wordOf                  that of the line
 --   alongStep, backStep     from a level byte to the next, and back to the unit before the edge
 --   lineIn                  the line, as `walk` takes it
---   recordSweep                 what is done along the lines of a recordUnits
+--   recordSweep             what is done along the lines of a record
 --   Counted                 what the numbers of a line ask: no sum wraps, and the masks hold the record
 --   Inner                   the line lies in the frame, and not at its start
 use mathlib.Core.Path.{_≡_}
@@ -28,7 +28,7 @@ use Rattle.units.specs.Frame.{records}
 use Rattle.units.specs.Masks.{unitWords, passStart, inRecord, recordRow, firstLine, firstHalf, rowUnits, twoHalves}
 use Rattle.units.specs.Memory.{levelAt}
 use Rattle.units.specs.Units.{chromaUnit}
-use Rattle.edges.specs.Edges.{Proper, unitsOf, side, half}
+use Rattle.edges.specs.Edges.{Proper, unitsOf, side, half, classes}
 use Rattle.walk.specs.declared.UnitLine.{UnitLine}
 use Rattle.filter.specs.declared.Component.{Component}
 use Rattle.filter.specs.Filter.{gridOf, areaOf, across, lineOf}
@@ -99,13 +99,13 @@ lineIn c ms d k rec a =
       m0 = wordOf c ms d k rec a 0;
       m1 = wordOf c ms d k rec a 1;
       m2 = wordOf c ms d k rec a 2;
-      luma = eqb (c .plane) 0;
+      classes = classes (gridOf c);
       at = levelAt (c .«level_stride») (leftOf c d rec a) (topOf c d k a) (areaOf c d);
       along = alongStep c d;
       back = backStep c d;
     }
 
--- the lines of a recordUnits
+-- the lines of a record
 unfoldable pub recordSweep : Plane → Pass → ℕ → ℕ → List ℕ → List ℕ
 recordSweep P d k rec = upTo (lineOf P d k rec) (across P d)
 
@@ -115,7 +115,7 @@ pub record Counted (c : Component) (d : Pass) (k rec a len : ℕ) : Type 0 where
   pub size : (c .sb4 .0 ≡ 16) ⊎ (c .sb4 .0 ≡ 32)
   pub width : c .w4 .0 ≤ 4096
   pub row : k * c .sb4 .0 < 4096
-  pub recordUnits : rec < records (c .w4 .0)
+  pub rec-in : rec < records (c .w4 .0)
   pub unit : a < acrossOf c d
   pub masks : 640 * (recordRow (c .sb4 .0) k * records (c .w4 .0) + rec) + 640 ≤ len
   pub sample : 4 * (topOf c d k a * c .stride + leftOf c d rec a) < 2 ^ 64
@@ -123,6 +123,6 @@ pub record Counted (c : Component) (d : Pass) (k rec a len : ℕ) : Type 0 where
   pub «level_stride» : 4 * c .«level_stride» < 2 ^ 64
 
 pub record Inner (c : Component) (d : Pass) (k rec a : ℕ) : Type 0 where
-  pub recordUnits : rec < records (c .w4 .0)
+  pub rec-in : rec < records (c .w4 .0)
   pub unit : a < unitsAcross c d k rec
   pub first : 0 < unitAt c d k rec a

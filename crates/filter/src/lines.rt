@@ -135,6 +135,12 @@ fn class_at(
     0
 }
 
+fn classes_of(luma: bool) -> u32
+    ensures { λ r. ⌜ r ≡ cond luma 3 2 ⌝ }
+{
+    if luma { 3 } else { 2 }
+}
+
 fn column_line(masks: &[u16], c: Component, k: usize, rec: usize, a: usize) -> UnitLine
     requires { ⌜ Counted c columns k rec a (length (now masks)) ⌝ }
     ensures { λ r. ⌜ r ≡ lineIn c (now (masks .entry)) columns k rec a ⌝ }
@@ -154,7 +160,7 @@ fn column_line(masks: &[u16], c: Component, k: usize, rec: usize, a: usize) -> U
         m0: class_at(masks, luma, m, first, n, h, 0),
         m1: class_at(masks, luma, m, first, n, h, 1),
         m2: class_at(masks, luma, m, first, n, h, 2),
-        luma,
+        classes: classes_of(luma),
         at: level_of(c, false, x, y),
         along: 4 * c.level_stride,
         back: 4,
@@ -179,7 +185,7 @@ fn row_line(masks: &[u16], c: Component, k: usize, rec: usize, a: usize) -> Unit
         m0: class_at(masks, luma, m, 0, 2, h, 0),
         m1: class_at(masks, luma, m, 0, 2, h, 1),
         m2: class_at(masks, luma, m, 0, 2, h, 2),
-        luma,
+        classes: classes_of(luma),
         at: level_of(c, true, x, y),
         along: 4,
         back: 4 * c.level_stride,

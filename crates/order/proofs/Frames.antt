@@ -76,15 +76,15 @@ pair : {a b c d : ℕ} → a ≡ c → b ≡ d → _≡_ {A = Piece} (a, b) (c, 
 pair e f = λ j. (e j, f j)
 
 module _ (P : Plane) (k : Kept P) where
-  group-of : (d : Pass) (p : Piece) → IsPiece P d p → right d p / P .recordUnits < P .records
-  group-of d p e = div-lt-iff-lt-mul (k .some-record) .1 (k .from-left d p (e .cls) (inner-some (p .0) _ _ (e .is) .1))
+  record-of : (d : Pass) (p : Piece) → IsPiece P d p → right d p / P .recordUnits < P .records
+  record-of d p e = div-lt-iff-lt-mul (k .some-record) .1 (k .from-left d p (e .cls) (inner-some (p .0) _ _ (e .is) .1))
 
   cols-once : (i : ℕ) → OrderIn P columns i (colsList P i)
   cols-once i = record { only = cols-only P i; every = every; once = cols-distinct P i }
     where
       every : (p : Piece) → InRow P columns i p → IsPiece P columns p → List·Memᴰ p (colsList P i)
       every p a e =
-          mem-cat _ (p .0 / P .recordUnits) (P .records) (group-of columns p e)
+          mem-cat _ (p .0 / P .recordUnits) (P .records) (record-of columns p e)
           (mem-cat _ (p .0 % P .recordUnits) (P .recordUnits) (mod-lt (p .0) (k .some-record))
           (mem-cat _ (p .1 - i * P .sb) (P .sb) (omega (arith, a .from, a .to))
           (List·Memᴰ·head (pair (sym (div-add-mod' (p .0) (P .recordUnits))) (omega (arith, a .from))))))
@@ -94,7 +94,7 @@ module _ (P : Plane) (k : Kept P) where
     where
       every : (p : Piece) → InRow P rows i p → IsPiece P rows p → List·Memᴰ p (rowsList P i)
       every p a e =
-          mem-cat _ (p .1 / P .recordUnits) (P .records) (group-of rows p e)
+          mem-cat _ (p .1 / P .recordUnits) (P .records) (record-of rows p e)
           (mem-cat _ (p .0 - i * P .sb) (P .sb) (omega (arith, a .from, a .to))
           (mem-cat _ (p .1 % P .recordUnits) (P .recordUnits) (mod-lt (p .1) (k .some-record))
           (List·Memᴰ·head (pair (omega (arith, a .from)) (sym (div-add-mod' (p .1) (P .recordUnits)))))))

@@ -3,7 +3,7 @@ use mathlib.Core.Path.{_≡_, refl}
 use mathlib.Core.Bool.{Bool, true, false, cond}
 use mathlib.Core.List.{List}
 use Prim.Native.Nat.{ℕ, zero, suc, _+_, _*_, _^_, _≤_, _<_}
-use lib.Dec.{eqb}
+use lib.Dec.{eqb, ltb}
 use lib.ListN.{length, getD}
 use Rattle.bits.specs.Bit.{hasBit}
 use Rattle.bits.specs.Walk.{visits}
@@ -40,7 +40,7 @@ module _ (depth : ℕ) (e i levels : List ℕ) (u : UnitLine) (s : List ℕ) (d 
   one-more : (k : ℕ) (t : List ℕ) → ((j : ℕ) → getD s j 0 < 2 ^ depth → getD t j 0 < 2 ^ depth) → (z : Bool) → hasBit (setIn u) k ≡ z
       → (j : ℕ) → getD s j 0 < 2 ^ depth → getD (cond z (visitAt depth e i levels u k t) t) j 0 < 2 ^ depth
   one-more k t f true z j h =
-      visit-below depth e i (u .«line_step») (u .«sample_step») (levelAt levels u k) (indexAt u k) t d (width (u .luma) (highest (u .m1) (u .m2) k)) (ok .ready k z .from)
+      visit-below depth e i (u .«line_step») (u .«sample_step») (levelAt levels u k) (indexAt u k) t d (width (ltb 2 (u .classes)) (highest (u .m1) (u .m2) k)) (ok .ready k z .from)
       (carried (2 ^ depth) (reads (lenAt u k)) (u .«line_step») (u .«sample_step») (indexAt u k) s t f (b .piece k z)) j (f j h)
   one-more k t f false z j h = f j h
 

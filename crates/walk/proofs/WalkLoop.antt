@@ -10,7 +10,7 @@ use native.Mathlib.Nat.{zero-mul, mod-eq-of-lt, div-eq-of-lt, le-div-iff-mul-le,
 use native.Mathlib.Omega.{arith}
 use borrow.Author.Tests.{ne-eqb}
 use lib.Bits.{bitAnd, or-lt}
-use lib.Dec.{eqb}
+use lib.Dec.{eqb, ltb}
 use lib.ListN.{length, getD}
 use lib.Pow.{pow-pos, pow-lt, shr-le, shr-shr}
 use Rattle.loops.proofs.Anys.{any-some}
@@ -22,7 +22,7 @@ use Rattle.line.specs.Width.{Width, reads}
 use Rattle.piece.specs.Samples.{PieceUnder}
 use Rattle.view.specs.Level.{levelUsed}
 use Rattle.walk.specs.declared.UnitLine.{UnitLine}
-use Rattle.walk.specs.Walk.{highest, lenOf, setIn, lenAt, levelAt, indexAt, visit, visitAt, walked}
+use Rattle.walk.specs.Walk.{highest, lenIn, setIn, lenAt, levelAt, indexAt, visit, visitAt, walked}
 use Rattle.walk.specs.Ready.{Ready, Walkable, InRange}
 use Rattle.walk.proofs.WidthsThresholds.{width}
 use Rattle.walk.proofs.Ranges.{next-below}
@@ -102,8 +102,8 @@ module _ {depth : ℕ} {e i levels : List ℕ} {u : UnitLine} {s₀ s : List ℕ
           level = omega (arith, g .inside, v .level, ok .step);
         }
 
-    pub len-is : (c wd : ℕ) → ((n : ℕ) → xy ≡ 2 ^ n → c ≡ highest (u .m1) (u .m2) n) → wd ≡ lenOf (u .luma) c → wd ≡ lenAt u (v .k)
-    len-is c wd h ew = ew ∙ ap (lenOf (u .luma)) (h (v .k) (v .bit ∙ mod-eq-of-lt (pow-lt (t .few))))
+    pub len-is : (c wd : ℕ) → ((n : ℕ) → xy ≡ 2 ^ n → c ≡ highest (u .m1) (u .m2) n) → wd ≡ lenIn (u .classes) c → wd ≡ lenAt u (v .k)
+    len-is c wd h ew = ew ∙ ap (lenIn (u .classes)) (h (v .k) (v .bit ∙ mod-eq-of-lt (pow-lt (t .few))))
 
     pub level-is : (l : ℕ) → l ≡ levelUsed (getD levels lvl 0) (getD levels (lvl - u .back) 0) → l ≡ levelAt levels u (v .k)
     level-is l el = el ∙ ap (λ (a : ℕ). levelUsed (getD levels a 0) (getD levels (a - u .back) 0)) (v .level)
@@ -140,7 +140,7 @@ module _ {depth : ℕ} {e i levels : List ℕ} {u : UnitLine} {s₀ s : List ℕ
             → Width wd × (l < 64) × (reads wd * u .«sample_step» ≤ p) × (p + 3 * u .«line_step» + (reads wd - 1) * u .«sample_step» < length s)
         asked ok =
             let g = ok .ready (v .k) is-set in
-            rw (ew, el, v .index, v .size) (width (u .luma) (highest (u .m1) (u .m2) (v .k)), low _ _ (g .level) (g .before), g .from, g .to)
+            rw (ew, el, v .index, v .size) (width (ltb 2 (u .classes)) (highest (u .m1) (u .m2) (v .k)), low _ _ (g .level) (g .before), g .from, g .to)
 
         pub asked-16 : 8 ≤ depth → depth ≤ 12 → Walkable levels u (length s₀) → InRange (2 ^ depth) u s₀
             → Width wd × (l < 64) × (reads wd * u .«sample_step» ≤ p) × (p + 3 * u .«line_step» + (reads wd - 1) * u .«sample_step» < length s) × (8 ≤ depth) × (depth ≤ 12)

@@ -3,6 +3,7 @@
 --   highest m₁ m₂ n              the highest class set at place n
 --   lumaLen c, chromaLen c       the width of a class
 --   lenOf luma c                 that of a luma plane or of a chroma plane
+--   lenIn classes c              that of a plane with so many classes: luma has 3, chroma 2
 --   setIn u                      the set places of a line of units
 --   lenAt, indexAt u n           the width and the index of q0 at place n
 --   levelAt levels u n           the level there
@@ -12,7 +13,7 @@ use mathlib.Core.Bool.{Bool, cond}
 use mathlib.Core.List.{List}
 use Prim.Native.Nat.{ℕ, zero, suc, _+_, _-_, _*_, _/_, _^_}
 use lib.Bits.{bitOr}
-use lib.Dec.{eqb}
+use lib.Dec.{eqb, ltb}
 use lib.ListN.{getD}
 use Rattle.bits.specs.Bit.{hasBit}
 use Rattle.bits.specs.Walk.{visits}
@@ -47,11 +48,14 @@ chromaLen (suc c) = 6
 abbrev pub lenOf : Bool → ℕ → ℕ
 lenOf luma c = cond luma (lumaLen c) (chromaLen c)
 
+abbrev pub lenIn : ℕ → ℕ → ℕ
+lenIn classes = lenOf (ltb 2 classes)
+
 abbrev pub setIn : UnitLine → ℕ
 setIn u = bitOr (bitOr (u .m0) (u .m1)) (u .m2)
 
 abbrev pub lenAt : UnitLine → ℕ → ℕ
-lenAt u n = lenOf (u .luma) (highest (u .m1) (u .m2) n)
+lenAt u n = lenIn (u .classes) (highest (u .m1) (u .m2) n)
 
 abbrev pub levelAt : List ℕ → UnitLine → ℕ → ℕ
 levelAt levels u n = levelUsed (getD levels (u .at + n * u .along) 0) (getD levels (u .at + n * u .along - u .back) 0)

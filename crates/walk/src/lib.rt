@@ -6,13 +6,14 @@ ghost use Prim.Native.Nat.{ℕ, _+_, _-_, _*_, _^_, _<_, _≤_};
 ghost use lib.ListN.{length};
 ghost use Rattle.line.specs.Width.{Width, reads};
 ghost use Rattle.piece.specs.Samples.{PieceUnder};
-ghost use Rattle.walk.specs.Walk.{thresholds, highest, lenOf, visit, walked};
+ghost use Rattle.walk.specs.Walk.{thresholds, highest, lenIn, visit, walked};
 ghost use Rattle.walk.specs.Ready.{Walkable, InRange};
 ghost use Rattle.walk.specs.Promises.{Promises};
 use standard::Bounds;
 
 // At place n, q0 of the first of the four lines is at index q + n * (4 * line_step), the lines line_step apart and a line's samples sample_step; the unit's
-// level byte is at at + n * along, and that of the unit before the edge back earlier. The masks are those of classes 0, 1, 2.
+// level byte is at at + n * along, and that of the unit before the edge back earlier. The masks are those of classes 0, 1, 2; the plane has that many
+// classes: 3 in luma, 2 in chroma.
 pub struct UnitLine {
     pub q: usize,
     pub line_step: usize,
@@ -20,7 +21,7 @@ pub struct UnitLine {
     pub m0: u32,
     pub m1: u32,
     pub m2: u32,
-    pub luma: bool,
+    pub classes: u32,
     pub at: usize,
     pub along: usize,
     pub back: usize,
@@ -39,13 +40,13 @@ fn class_of(m1: u32, m2: u32, xy: u32) -> u32
     0
 }
 
-fn width_of(luma: bool, class: u32) -> u32
-    ensures { λ r. ⌜ r ≡ lenOf luma class ⌝ }
+fn width_of(classes: u32, class: u32) -> u32
+    ensures { λ r. ⌜ r ≡ lenIn classes class ⌝ }
 {
     if class == 0 {
         return 4;
     }
-    if !luma {
+    if classes < 3 {
         return 6;
     }
     if class == 1 { 8 } else { 16 }
@@ -108,7 +109,7 @@ pub fn walk_8(dst: &mut [u8], l: UnitLine, levels: &[u8], e: &[u8; 64], i: &[u8;
     let mut lvl = l.at;
     while vm & !std::num::wrapping_sub_u32(xy, 1) != 0 {
         if vm & xy != 0 {
-            let wd = width_of(l.luma, class_of(l.m1, l.m2, xy));
+            let wd = width_of(l.classes, class_of(l.m1, l.m2, xy));
             visit_8(
                 dst,
                 p,
@@ -165,7 +166,7 @@ pub fn walk_16(dst: &mut [u16], l: UnitLine, levels: &[u8], e: &[u8; 64], i: &[u
     let mut lvl = l.at;
     while vm & !std::num::wrapping_sub_u32(xy, 1) != 0 {
         if vm & xy != 0 {
-            let wd = width_of(l.luma, class_of(l.m1, l.m2, xy));
+            let wd = width_of(l.classes, class_of(l.m1, l.m2, xy));
             visit_16(
                 dst,
                 p,

@@ -10,7 +10,7 @@ use Rattle.filter.proofs.UnitPlaces.{places-le}
 use Rattle.filter.proofs.UnitActs.{line-walked}
 use Rattle.filter.proofs.PieceRooms.{walkable}
 use Rattle.filter.proofs.Ranges.{in-range, stays}
-use Rattle.filter.proofs.Groups.{counted}
+use Rattle.filter.proofs.RecordLines.{counted}
 use borrow.Author.Needs.{needs}
 use Rattle.filter.proofs.line_16.Statement.{statement}
 use Rattle.filter.proofs.line_16.Tie as tie

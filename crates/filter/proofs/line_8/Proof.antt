@@ -7,7 +7,7 @@ use Rattle.filter.specs.Filter.{tables}
 use Rattle.filter.proofs.UnitPlaces.{places-le}
 use Rattle.filter.proofs.UnitActs.{line-walked}
 use Rattle.filter.proofs.PieceRooms.{walkable}
-use Rattle.filter.proofs.Groups.{counted}
+use Rattle.filter.proofs.RecordLines.{counted}
 use borrow.Author.Needs.{needs}
 use Rattle.filter.proofs.line_8.Statement.{statement}
 use Rattle.filter.proofs.line_8.Tie as tie

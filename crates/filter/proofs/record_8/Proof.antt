@@ -9,7 +9,7 @@ use Rattle.loops.proofs.Runs.{upTo-again}
 use Rattle.filter.specs.Filter.{tables, planeOf, lineOf}
 use Rattle.filter.specs.Ready.{Stored}
 use Rattle.filter.specs.Lines.{unitsAcross}
-use Rattle.filter.proofs.Groups.{some-lines, inner-of, start-idle, group-whole}
+use Rattle.filter.proofs.RecordLines.{some-lines, inner-of, start-idle, record-whole}
 use borrow.Author.Needs.{needs}
 use Rattle.filter.proofs.record_8.Statement.{statement}
 use Rattle.filter.proofs.record_8.Tie as tie
@@ -76,7 +76,7 @@ returns : tie.Need-returns Inv-loop μ-loop
 returns c = let t = c .before .before .before .before .before .before .before in let a = t .args in let l = c .before .loop in
     let e : l .a ≡ unitsAcross (a .c) (passOf (a .rowwise)) (a .k) (a .rec) = omega (arith, c .before .before .before .units-across .ensures) in
     l .inv .3 ∙ ap (λ (n : ℕ). upTo (lineOf (planeOf (a .c) (tables 8 (a .levels .now) (a .masks .now) (a .e .now) (a .i .now))) (passOf (a .rowwise)) (a .k) (a .rec)) n
-    (a .dst .now)) e ∙ group-whole (a .c) (tables 8 (a .levels .now) (a .masks .now) (a .e .now) (a .i .now)) (a .k) (a .rec) (a .dst .now) (passOf (a .rowwise))
+    (a .dst .now)) e ∙ record-whole (a .c) (tables 8 (a .levels .now) (a .masks .now) (a .e .now) (a .i .now)) (a .k) (a .rec) (a .dst .now) (passOf (a .rowwise))
 
 pub record-8-spec : {M : Type 1} → statement M
 record-8-spec =

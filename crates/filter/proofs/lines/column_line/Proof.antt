@@ -53,32 +53,36 @@ class-at-requires-3 c κs = let t = c .before .before .before .before .before .b
     (mask-is (t .args .c) columns (t .args .k) (t .args .rec) (t .args .a) _ _ refl (c .before .before .before .before .before .before .mask-at .ensures))
     (c .before .before .before .before .before .first-half .ensures) (c .before .before .before .half-units .ensures) (omega arith)
 
+classes-of-requires : tie.Need-classes-of-requires
+classes-of-requires c κs = search needs
+
 level-of-requires : tie.Need-level-of-requires
 level-of-requires c κs =
-    let c₈ = c .before .before .before .before .before .before .before .before in
-    let c₉ = c₈ .before in
-    let c₁₂ = c₉ .before .before .before in
-    (c₁₂ .pre .plane, rw (c₈ .row-top .ensures, c₉ .record-left .ensures) (c₁₂ .pre .level))
+    let c₉ = c .before .before .before .before .before .before .before .before .before in
+    let c₁₀ = c₉ .before in
+    let c₁₃ = c₁₀ .before .before .before in
+    (c₁₃ .pre .plane, rw (c₉ .row-top .ensures, c₁₀ .record-left .ensures) (c₁₃ .pre .level))
 
-mul-t19 : tie.Need-mul-t19
-mul-t19 c =
-    let c₁₄ = c .before .before .before .before .before .before .before .before .before .before .before .before .before .before in
-    record { fits = c₁₄ .pre .«level_stride» }
+mul-t20 : tie.Need-mul-t20
+mul-t20 c =
+    let c₁₅ = c .before .before .before .before .before .before .before .before .before .before .before .before .before .before .before in
+    record { fits = c₁₅ .pre .«level_stride» }
 
 returns : tie.Need-returns
 returns c =
-    let c₄ = c .before .before .before .before in
-    let c₅ = c₄ .before in
+    let c₅ = c .before .before .before .before .before in
     let c₆ = c₅ .before in
-    let c₉ = c₆ .before .before .before in
-    let c₁₀ = c₉ .before in
+    let c₇ = c₆ .before in
+    let c₁₀ = c₇ .before .before .before in
     let c₁₁ = c₁₀ .before in
-    let t = c .before .before .before .before .before .before .before .before .before .before .before .before .before .before in
+    let c₁₂ = c₁₁ .before in
+    let t = c₁₂ .before .before .before in
     line-make (t .args .c) columns (t .args .k) (t .args .rec) (t .args .a) (t .args .masks .now) _ _ _ _ _ _
-    (ap (λ (x : ℕ). x + t .args .a) (c₁₁ .record-left .ensures)) (c₁₀ .row-top .ensures)
-    (mask-is (t .args .c) columns (t .args .k) (t .args .rec) (t .args .a) _ _ refl (c₉ .mask-at .ensures))
-    (c₆ .before .before .first-half .ensures) refl (c₆ .half-units .ensures) _ _ _ _ _
-    (c₅ .sample-at .ensures) (c₄ .class-at .ensures) (c .before .before .before .class-at2 .ensures) (c .before .before .class-at3 .ensures) (c .before .level-of .ensures)
+    (ap (λ (x : ℕ). x + t .args .a) (c₁₂ .record-left .ensures)) (c₁₁ .row-top .ensures)
+    (mask-is (t .args .c) columns (t .args .k) (t .args .rec) (t .args .a) _ _ refl (c₁₀ .mask-at .ensures))
+    (c₇ .before .before .first-half .ensures) refl (c₇ .half-units .ensures) _ _ _ _ _ _
+    (c₆ .sample-at .ensures) (c₅ .class-at .ensures) (c .before .before .before .before .class-at2 .ensures) (c .before .before .before .class-at3 .ensures)
+    (c .before .before .classes-of .ensures) (c .before .level-of .ensures)
 
 pub column-line-spec : {M : Type 1} → statement M
 column-line-spec =
@@ -94,6 +98,7 @@ column-line-spec =
     class-at-requires
     class-at-requires-2
     class-at-requires-3
+    classes-of-requires
     level-of-requires
-    mul-t19
+    mul-t20
     returns)

@@ -34,7 +34,7 @@ mask-at-requires : tie.Need-mask-at-requires
 mask-at-requires c κs = let t = c .before .before .before .before .before in (
   t .pre .width,
   t .pre .row,
-  t .pre .recordUnits,
+  t .pre .rec-in,
   omega (arith, c .first-line .ensures, unit-lt (t .args .c) rows (t .args .k) (t .args .rec) (t .args .a) _ (t .pre)),
 )
 
@@ -68,33 +68,36 @@ class-at-requires-3 c κs = let t = c .before .before .before .before .before .b
     (ap (λ (x : ℕ). x + t .args .a) (c .before .before .before .before .before .first-line .ensures)) (c .before .before .before .before .mask-at .ensures)) refl
     (c .before .before .before .half-units .ensures) (omega arith)
 
+classes-of-requires : tie.Need-classes-of-requires
+classes-of-requires c κs = search needs
+
 level-of-requires : tie.Need-level-of-requires
 level-of-requires c κs =
-    let c₇ = c .before .before .before .before .before .before .before in
-    let c₈ = c₇ .before in
-    let c₁₁ = c₈ .before .before .before in
-    (c₁₁ .pre .plane, rw (c₇ .row-top .ensures, c₈ .record-left .ensures) (c₁₁ .pre .level))
+    let c₈ = c .before .before .before .before .before .before .before .before in
+    let c₉ = c₈ .before in
+    let c₁₂ = c₉ .before .before .before in
+    (c₁₂ .pre .plane, rw (c₈ .row-top .ensures, c₉ .record-left .ensures) (c₁₂ .pre .level))
 
-mul-t18 : tie.Need-mul-t18
-mul-t18 c =
-    let c₁₃ = c .before .before .before .before .before .before .before .before .before .before .before .before .before in
-    record { fits = c₁₃ .pre .«level_stride» }
+mul-t19 : tie.Need-mul-t19
+mul-t19 c =
+    let c₁₄ = c .before .before .before .before .before .before .before .before .before .before .before .before .before .before in
+    record { fits = c₁₄ .pre .«level_stride» }
 
 returns : tie.Need-returns
 returns c =
-    let c₄ = c .before .before .before .before in
-    let c₅ = c₄ .before in
+    let c₅ = c .before .before .before .before .before in
     let c₆ = c₅ .before in
     let c₇ = c₆ .before in
     let c₈ = c₇ .before in
     let c₉ = c₈ .before in
     let c₁₀ = c₉ .before in
-    let t = c .before .before .before .before .before .before .before .before .before .before .before .before .before in
-    line-make (t .args .c) rows (t .args .k) (t .args .rec) (t .args .a) (t .args .masks .now) _ _ _ _ _ _ (c₁₀ .record-left .ensures)
-    (ap (λ (x : ℕ). x + t .args .a) (c₉ .row-top .ensures))
-    (mask-is (t .args .c) rows (t .args .k) (t .args .rec) (t .args .a) _ _ (ap (λ (x : ℕ). x + t .args .a) (c₈ .first-line .ensures)) (c₇ .mask-at .ensures)) refl
-    refl (c₆ .half-units .ensures) _ _ _ _ _ (c₅ .sample-at .ensures) (c₄ .class-at .ensures) (c .before .before .before .class-at2 .ensures)
-    (c .before .before .class-at3 .ensures) (c .before .level-of .ensures)
+    let c₁₁ = c₁₀ .before in
+    let t = c₁₁ .before .before .before in
+    line-make (t .args .c) rows (t .args .k) (t .args .rec) (t .args .a) (t .args .masks .now) _ _ _ _ _ _ (c₁₁ .record-left .ensures)
+    (ap (λ (x : ℕ). x + t .args .a) (c₁₀ .row-top .ensures))
+    (mask-is (t .args .c) rows (t .args .k) (t .args .rec) (t .args .a) _ _ (ap (λ (x : ℕ). x + t .args .a) (c₉ .first-line .ensures)) (c₈ .mask-at .ensures)) refl
+    refl (c₇ .half-units .ensures) _ _ _ _ _ _ (c₆ .sample-at .ensures) (c₅ .class-at .ensures) (c .before .before .before .before .class-at2 .ensures)
+    (c .before .before .before .class-at3 .ensures) (c .before .before .classes-of .ensures) (c .before .level-of .ensures)
 
 pub row-line-spec : {M : Type 1} → statement M
 row-line-spec =
@@ -111,6 +114,7 @@ row-line-spec =
     class-at-requires
     class-at-requires-2
     class-at-requires-3
+    classes-of-requires
     level-of-requires
-    mul-t18
+    mul-t19
     returns)

@@ -1,4 +1,4 @@
--- The lines of a recordUnits: those of the frame, but the one at its start, are walked, and along the others nothing is done.
+-- The lines of a record: those of the frame, but the one at its start, are walked, and along the others nothing is done.
 use mathlib.Core.Path.{_≡_, refl, sym, ap, _∙_}
 use mathlib.Core.Bool.{cond}
 use mathlib.Core.List.{List}
@@ -69,17 +69,17 @@ module _ (c : Component) (t : Tables) (k rec a len : ℕ) (s : Stored c t len) w
   pub counted : (d : Pass) → Fit c t d k → Inner c d k rec a → len < 2 ^ 64 → length (t .levels) < 2 ^ 64 → Counted c d k rec a (length (t .masks))
   counted d f i x y =
       let p = spot c t k rec a len s d (f .row) i in
-      let q = first-in d (f .row) (i .recordUnits) in
+      let q = first-in d (f .row) (i .rec-in) in
       record {
         plane = s .plane;
         proper = s .proper;
         size = s .size;
         width = s .width;
         row = omega (arith, f .row, s .height);
-        recordUnits = i .recordUnits;
+        rec-in = i .rec-in;
         unit = few-lines d (i .unit);
         masks = record-in (length (t .masks)) (c .w4 .0) (c .h4 .0) (c .sb4 .0) k
-            (record { size = s .size; down = f .row; width = s .width; height = s .height; long = s .masks-long }) rec (i .recordUnits);
+            (record { size = s .size; down = f .row; width = s .width; height = s .height; long = s .masks-long }) rec (i .rec-in);
         sample = omega (arith, sample-in d p q);
         level = omega (arith, level-at d p q);
         «level_stride» = omega (arith, step-in c t len columns s (omega (arith, f .row)));
@@ -106,7 +106,7 @@ module _ (c : Component) (t : Tables) (d : Pass) (k rec a : ℕ) (l : List ℕ) 
       inner-none zero = refl
       inner-none (suc u) = refl
 
--- ---- the lines of a recordUnits
+-- ---- the lines of a record
 
 flag-le : (n : ℕ) → cond (eqb n 0) 1 0 ≤ 1
 flag-le n = by-cases (ℕ-discrete n 0) (λ e. rw (eq-eqb n 0 e) (omega arith)) (λ e. rw (ne-eqb n 0 e) (omega arith))
@@ -142,7 +142,7 @@ module _ (c : Component) (t : Tables) (k rec len : ℕ) (s : Stored c t len) whe
       past-start k a (chromaUnit (c .«ss_ver») (c .sb4 .0)) h (omega (arith, row-sizes (c .«ss_ver») (c .sb4 .0) (s .proper .ss-ver-le) (s .size)))
 
   pub inner-of : (a : ℕ) (d : Pass) → rec < records (c .w4 .0) → firstUnit d k rec ≤ a → a < unitsAcross c d k rec → Inner c d k rec a
-  inner-of a d x y z = record { recordUnits = x; unit = z; first = inner-line a d y }
+  inner-of a d x y z = record { rec-in = x; unit = z; first = inner-line a d y }
 
 module _ (c : Component) (t : Tables) (k rec : ℕ) (l : List ℕ) where
   pub start-idle : (d : Pass) → upTo (lineOf (planeOf c t) d k rec) (firstUnit d k rec) l ≡ l
@@ -154,18 +154,18 @@ module _ (c : Component) (t : Tables) (k rec : ℕ) (l : List ℕ) where
       (λ e. at-start c t rows k rec 0 l
       (omega (arith, ap (λ (n : ℕ). n * chromaUnit (c .«ss_ver») (c .sb4 .0)) e, zero-mul (chromaUnit (c .«ss_ver») (c .sb4 .0)))))
 
-  group-done : (d : Pass) → across (planeOf c t) d ≡ acrossOf c d → ((a : ℕ) → unitsAcross c d k rec ≤ a → unitsAcross c d k rec < acrossOf c d
+  record-done : (d : Pass) → across (planeOf c t) d ≡ acrossOf c d → ((a : ℕ) → unitsAcross c d k rec ≤ a → unitsAcross c d k rec < acrossOf c d
       → unitsOf (gridOf c) d ≤ unitAt c d k rec a) → unitsAcross c d k rec ≤ acrossOf c d → upTo (lineOf (planeOf c t) d k rec) (unitsAcross c d k rec) l ≡ recordSweep (planeOf c t) d k rec l
   unfolding recordSweep
-  group-done d e h le =
+  record-done d e h le =
       by-cases (decLt (unitsAcross c d k rec) (acrossOf c d))
       (λ x. sym (upTo-idle (lineOf (planeOf c t) d k rec) (unitsAcross c d k rec) (acrossOf c d) (λ a y m. past-end c t d k rec a m (h a y x)) le l)
       ∙ ap (λ (n : ℕ). upTo (lineOf (planeOf c t) d k rec) n l) (sym e))
       (λ x. let z : unitsAcross c d k rec ≡ across (planeOf c t) d = omega arith in ap (λ (n : ℕ). upTo (lineOf (planeOf c t) d k rec) n l) z)
 
-  pub group-whole : (d : Pass) → upTo (lineOf (planeOf c t) d k rec) (unitsAcross c d k rec) l ≡ recordSweep (planeOf c t) d k rec l
-  group-whole columns = group-done columns refl (λ a x y. omega arith) (omega arith)
-  group-whole rows = group-done rows refl (λ a x y. omega arith) (omega arith)
+  pub record-whole : (d : Pass) → upTo (lineOf (planeOf c t) d k rec) (unitsAcross c d k rec) l ≡ recordSweep (planeOf c t) d k rec l
+  record-whole columns = record-done columns refl (λ a x y. omega arith) (omega arith)
+  record-whole rows = record-done rows refl (λ a x y. omega arith) (omega arith)
 
 pub sweep-whole : (P : Plane) (d : Pass) (k : ℕ) (l : List ℕ) → upTo (λ rec. recordSweep P d k rec) (P .records) l ≡ sweepOf P d k l
 unfolding recordSweep sweepOf
