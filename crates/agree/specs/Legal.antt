@@ -1,5 +1,6 @@
 -- A block of a legal stream: as the standard's frame knows it, and as it is recorded in one plane. What is assumed of the stream is here.
 --   Coded                the block: its luma place, its size, skip and intra
+--   lumaWidth, lumaHeight  its sides in luma units
 --   left, top            its place in a plane, in units of the plane
 --   blockWidth, blockHeight           its sides there
 --   rowAt y, colAt x     the luma place at which 7.14.1 visits the unit (x, y) of the block

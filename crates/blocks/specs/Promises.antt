@@ -26,6 +26,6 @@ pub record Promises : Type 0 where
       → Calls level-stride l m n → All (ChromaLegal D plane A sx sy) l → Laid A sx sy l → ChromaLong A sx sy m → ((k : ℕ) → classOf plane k ≤ start)
       → ((d : Pass) → Begins start (tileIn A sx sy d) (contextIn d (chromaState m)))
       → TileDrawn D plane (chromaGrid sx sy (A .w4) (A .h4)) A sx sy (chromaState m) (chromaState n) start
-  -- of an area that is the whole frame that tile is all of the frame's units, so that the frame is of one tile
+  -- of a tile's area that is the whole frame that tile is all of the frame's units, so that the frame is of one tile
   pub whole : (A : TileArea) (luma : Bool) (sx sy : ℕ) → ((d : Pass) → SoundAxis (axisOf A sx sy d)) → WholeFrame A → (d : Pass)
       → tileIn A sx sy d ≡ wholeOf (gridOf luma sx sy (A .w4) (A .h4)) d

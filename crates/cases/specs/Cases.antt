@@ -2,6 +2,7 @@
 --   limits s lvl             i and e: C1 to C5
 --   line len depth s lvl xs  a line's samples once it is filtered: C6 to C11
 --   tile context             a tile start with one unit, the bits of classes 1 and 2 set: the number, and the edge's class after: C12
+--   cases                    the table
 use mathlib.Core.Path.{_≡_, refl}
 use mathlib.Core.List.{List, [], _∷_}
 use mathlib.Core.Option.{Option, some, none}

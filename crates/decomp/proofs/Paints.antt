@@ -1,4 +1,4 @@
--- What each cell of the tables is, in whatever order the transforms came: each paints its own area and nothing else, and areas side by side join.
+-- What each cell of the tables is, in whatever order the transforms came: each paints its own rectangle and nothing else, and rectangles side by side join.
 use mathlib.Core.Path.{_≡_, refl, sym, ap, _∙_}
 use mathlib.Core.Bool.{Bool, true, false, cond, _&&_, and-false}
 use mathlib.Core.Logic.{_⊎_, inl, inr, ⊎-elim, by-cases}
@@ -18,7 +18,7 @@ use Rattle.decomp.specs.Cells.{cell}
 use Rattle.decomp.specs.Folds.{value, wideIn, highIn, fill, put, whole, grid}
 use Rattle.decomp.proofs.Fills.{length-fill, fill-in, fill-out}
 
--- ---- areas
+-- ---- rectangles
 
 -- the cell of table p at (y, x), where a transform of size t lies: its value, where it is written
 unfoldable pub paint : ℕ → ℕ → ℕ → ℕ → ℕ → ℕ
@@ -39,7 +39,7 @@ module _ (p t y x old : ℕ) where
 abbrev pub In : ℕ → ℕ → ℕ → ℕ → ℕ → ℕ → Type 0
 In y0 x0 h w y x = (y0 ≤ y) × (y < y0 + h) × (x0 ≤ x) × (x < x0 + w)
 
--- g paints the transforms tx in the area R
+-- g paints the transforms tx in the rectangle R
 pub record Paints (R : ℕ → ℕ → Type 0) (tx : ℕ → ℕ → ℕ) (g : List ℕ → List ℕ) : Type 0 where
   pub long : (a : List ℕ) → length a ≡ 4096 → length (g a) ≡ 4096
   pub inside : (a : List ℕ) → length a ≡ 4096 → (p y x : ℕ) → p < 4 → R y x → getD (g a) (cell p y x) 0 ≡ paint p (tx x y) y x (getD a (cell p y x) 0)
@@ -65,7 +65,7 @@ module _ (tx : ℕ → ℕ → ℕ) where
             G .outside (f a) (F .long a l) p y x h hy hx (λ v. r (inQ y x v)) ∙ F .outside a l p y x h hy hx (λ u. r (inP y x u));
       }
 
-  -- n areas of w columns side by side
+  -- n rectangles of w columns side by side
   paints-row : (y0 x0 h w n : ℕ) (g : ℕ → List ℕ → List ℕ) → y0 + h ≤ 32 → x0 + n * w ≤ 32
       → ((j : ℕ) → j < n → Paints (In y0 (x0 + j * w) h w) tx (g j)) → Paints (In y0 x0 h (n * w)) tx (upTo g n)
   paints-row y0 x0 h w zero g hy hx k = paints-none (In y0 x0 h (0 * w)) (λ y x r. omega arith)
@@ -75,7 +75,7 @@ module _ (tx : ℕ → ℕ → ℕ) where
       (λ y x r. by-cases (decLt x (x0 + n * w)) (λ q. inl (omega arith)) (λ q. inr (omega arith))) (λ y x p. omega arith) (λ y x q. omega arith)
       (λ y x r. omega arith) (paints-row y0 x0 h w n g hy (omega arith) (λ j l. k j (omega arith))) (k n (omega arith))
 
-  -- k areas of h rows one below the other
+  -- k rectangles of h rows one below the other
   paints-column : (y0 x0 h w k : ℕ) (g : ℕ → List ℕ → List ℕ) → y0 + k * h ≤ 32 → x0 + w ≤ 32
       → ((i : ℕ) → i < k → Paints (In (y0 + i * h) x0 h w) tx (g i)) → Paints (In y0 x0 (k * h) w) tx (upTo g k)
   paints-column y0 x0 h w zero g hy hx f = paints-none (In y0 x0 (0 * h) w) (λ y x r. omega arith)

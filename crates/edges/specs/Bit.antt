@@ -1,5 +1,4 @@
 -- The bit of an edge, as the code finds it.
---   passOf rows     the row pass, or the column pass
 --   Near            what is asked: a plane's subsampling, and a width and a unit of a frame
 use mathlib.Core.Bool.{Bool, cond}
 use Prim.Native.Nat.{ℕ, _≤_}

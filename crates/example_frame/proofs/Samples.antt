@@ -1,4 +1,4 @@
--- The samples after each pass at one place of each plane, the first past the corner where the areas meet, computed as a function of the index.
+-- The samples after each pass at one place of each plane, the first past the corner where the quarters meet, computed as a function of the index.
 use mathlib.Core.Path.{_≡_, refl, sym, ap, _∙_, subst⁻¹}
 use mathlib.Core.Bool.{true}
 use mathlib.Core.List.{List, [], _∷_, map}

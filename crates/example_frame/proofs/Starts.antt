@@ -16,12 +16,12 @@ abbrev pub size : ℕ → ℕ
 size zero = 16384
 size (suc n) = 4096
 
-abbrev areas : ℕ → ℕ → ℕ
-areas zero = quarters 128 64
-areas (suc n) = quarters 64 32
+abbrev quartersOf : ℕ → ℕ → ℕ
+quartersOf zero = quarters 128 64
+quartersOf (suc n) = quarters 64 32
 
 abbrev pub start : ℕ → ℕ → ℕ
-start n i = cond (ltb i (size n)) (areas n i) 0
+start n i = cond (ltb i (size n)) (quartersOf n i) 0
 
 table-tells : (f : ℕ → ℕ) (n : ℕ) → Tells n (λ i. cond (ltb i n) (f i) 0) (tabulate f n)
 table-tells f n =

@@ -3,7 +3,7 @@
 --   edgesOf n d k            the edges of plane n in superblock row k, with their classes
 --   bits, masks, levels      the bits of those edges, and the masks that have them; level 32 everywhere
 --   limits                   the limit table of sharpness 3
---   quarters                 samples of four areas, which meet 4 samples from the left on the boundary; w samples a line, h lines above it
+--   quarters                 samples of four quarters, which meet 4 samples from the left on the boundary; w samples a line, h lines above it
 --   samplesOf n, lent        those of plane n; and all that the calls are lent
 --   planeOf n                plane n
 use mathlib.Core.Bool.{Bool, false, cond}

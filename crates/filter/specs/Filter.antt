@@ -1,13 +1,13 @@
 -- One plane of a frame, from what the calls that filter are lent; and one pass over a superblock row of it, for both passes at once.
 --   Tables                   depth, level bytes, masks, and the limit table's e and i
 --   tables                   of these
---   passOf rows              the pass
 --   gridOf c                 the plane's units
 --   areaOf c d               its level byte in a pass: 0 luma columns, 1 luma rows, 2 U, 3 V
 --   levelIn c t d p          the level byte of the unit p
 --   before p                 the unit before the edge at p
 --   levelOf c t d p          the level used there
---   ruleOf c t d cls p       what the piece at p does to a line: nothing at level 0
+--   changeAt t len lvl l     what a piece of a width does to a line at a level: nothing at level 0
+--   ruleOf c t d cls p       that of the piece at p
 --   planeOf c t              the plane
 --   firstAcross, firstAlong, across, along, sweepOf     colsOf and rowsOf in one: in each record the units across the pass, at each the units along it
 use mathlib.Core.Bool.{cond}

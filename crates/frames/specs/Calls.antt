@@ -1,5 +1,6 @@
 -- The calls that filter a frame: one pass of one superblock row each, with one set of levels, masks and limits.
 --   Frame               what all of them are given; the row and the pass of `head` do not count
+--   isRows d            the flag of a pass
 --   callAt f d k        the call for superblock row k in pass d: columns_8, columns_16, rows_8 or rows_16
 --   lentOf f s          the memory it is lent where the planes hold s
 --   answer f d k s      its number

@@ -3,6 +3,7 @@
 --   Keeps          a line keeps the gap rule of neighbours, as a call for row k looks at it
 --   Looks          the lines that it looks at
 --   Gap            number 11: a line of the row breaks the gap rule of neighbours
+--   Across, Along  the units and the halves that number 12 looks at
 --   Outside        number 12: a bit of this row that is set, and outside the bits its half may hold or outside the frame
 --   Promises       the tests are true exactly when these hold; and the bits that number 12 looks at are those of edges
 use mathlib.Core.Path.{_≡_}

@@ -58,9 +58,9 @@ zero-at (suc n) (suc i) = zero-at n i
 black : (n i : ℕ) → ltb 255 (getD (zeros n) i 0) ≡ false
 black n i = ap (λ (v : ℕ). ltb 255 v) (zero-at n i)
 
-low : (n level-stride wide sb above k : ℕ) → samplesHigh (zeros n) level-stride 255 wide sb above k ≡ false
+low : (n level-stride width sb above k : ℕ) → samplesHigh (zeros n) level-stride 255 width sb above k ≡ false
 unfolding samplesHigh
-low n level-stride wide sb above k = any-false _ _ (λ y _. any-false wide _ (λ x _. black n _))
+low n level-stride width sb above k = any-false _ _ (λ y _. any-false width _ (λ x _. black n _))
 
 long : (n : ℕ) → length (zeros n) ≡ n
 unfolding zeros

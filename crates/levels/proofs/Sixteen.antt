@@ -1,4 +1,4 @@
--- The sixteen values of a area are those of the definition, and the kinds stored one after another are the table: no delta of a segment is
+-- The sixteen values of an area are those of the definition, and the areas stored one after another are the table: no delta of a segment is
 -- a delta of 0, and byte 16 * c + j is reference j / 2 and mode j % 2 of area c.
 use mathlib.Core.Bool.{Bool, true, false, cond}
 use mathlib.Core.List.{List, _++_}
@@ -45,7 +45,7 @@ unfolding lvlSeg baseFilterLevel
 seg-always true feature l d = refl
 seg-always false feature l d = rw (+ℤ-idr (Clip3 (pos 0) (pos 63) (d +ℤ pos l))) (clip-clip (d +ℤ pos l))
 
--- ---- the sixteen values of a area
+-- ---- the sixteen values of an area
 
 module _ (x : LevelsIn) (c d f : ℕ) (ed : subℕ d 128 ≡ lfDelta x (c % 4)) (ef : subℕ f 128 ≡ cond (on (x .segmentation)) (delta (x .seg) c) (pos 0)) where
   sixteen : (j : ℕ) → biasedLevel (baseAt x (c % 4)) d f (x .enabled) (x .ref) (x .mode) j

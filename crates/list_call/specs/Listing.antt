@@ -1,4 +1,5 @@
 -- The listing of a script: document 01, "Edge listing".
+--   push b ls        the lines ls with the byte b before the first
 --   linesOf s        the lines of a script: byte 10 ends a line, and a last line without it is a line
 --   start            what is kept before the first line: masks cleared, luma contexts 2, chroma contexts 1
 --   after k ls       what is kept after the lines ls

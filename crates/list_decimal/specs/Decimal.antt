@@ -5,6 +5,7 @@
 --   numeral s          1 to 9 digits
 --   noNumber           what reading answers for anything else
 --   numberOf s         what reading answers
+--   decimalIn k n      its digits, at most k + 1 of them
 --   decimal n          the number with no zeros in front
 --   pasted l at s      the list l with s in place of what stands from `at` on
 use mathlib.Core.Bool.{Bool, true, _&&_, cond}

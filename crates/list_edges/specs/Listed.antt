@@ -5,9 +5,11 @@
 --   gridIn s p         the units of plane p
 --   area p d           which byte of a unit's levels
 --   levelIn s p d x y  the level of an edge: the byte of the unit at the edge
+--   edgeIn             the edge of a class at a unit
+--   found              a list of one edge, or of none
 --   edgesAt            the edge at a unit, if there is one; none at unit 0
 --   edgesIn, edgesOf   those of a pass of a plane; of the frame
---   listText s         the list as text
+--   lineText, linesText, listText s   an edge, several and the list as text
 use mathlib.Core.Bool.{cond}
 use mathlib.Core.List.{List, [], _∷_, _++_}
 use mathlib.Core.Option.{Option, some, none}

@@ -12,7 +12,8 @@
 --   gridMasks, cellMasks    both, the contexts a above and l left
 --   Reach step x            x is reached from 0 by one step or more
 --   cellAt d what u v       the cell of the tables a of transforms that tells the class (what 0) or the step (1) at (u, v); classIn a p, stepIn a p
---   tables ms t w4 h4       the tables of an inter block, from cells of 0
+--   zeros                   4096 cells of 0
+--   tables ms t w4 h4       the tables of an inter block, from those
 --   wholeBy                 a test that no transform is split, of w4 by h4 units of transforms of w by h: of an inter block by the first mask m
 --   oneMasks, intraMasks, interMasks, lumaMasks, chromaMasks     the masks that the recorders leave
 --   lastRow, lastColumn     the classes of an inter block's last row and column; aboveOf, leftOf: those that the contexts take of a luma block

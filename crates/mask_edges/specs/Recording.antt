@@ -3,7 +3,8 @@
 --   Sweep               the block as one pass sees it: u counts units across the pass, v along it
 --   columns, rows       pass 0 and pass 1
 --   isEdge S u v        there is an edge at (u, v): its transform starts there, and it is the block's own edge or inner edges count
---   classAt S u v       the edge's class: the least of its transform's and of the one before, which at the block's edge the context tells
+--   classBefore S u v   the class of the transform before (u, v), which at the block's edge the context tells
+--   classAt S u v       the edge's class: the least of its transform's and of the one before
 --   contextAfter S v    the context after the block: the class of its last column or row, where it reaches
 --   edges S bit e       e is the bit of an edge
 --   Recorded            the bits of the block's edges are set, and no other changes; `bit pass unit class place` is the bit of an edge

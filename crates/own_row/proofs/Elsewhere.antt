@@ -87,7 +87,7 @@ own-level c n x y l r h o a =
 
 -- ---- bits
 
--- a word of a record, b being the area
+-- a word of a record, of luma or of chroma
 abbrev word : Bool → Pass → ℕ → ℕ → ℕ → ℕ
 word b d u k h = cond b (lumaWord (passNo d) u k h) (chromaWord (passNo d) u k h)
 
@@ -105,9 +105,9 @@ word-inj false false d d′ u u′ k k′ h h′ x x′ y y′ z z′ e = (refl,
 side-le : (u ss : ℕ) → ss ≤ 1 → u % (32 / 2 ^ ss) < 32
 side-le u = by-ss (λ ss. u % (32 / 2 ^ ss) < 32) (omega arith) (omega arith)
 
--- the bit of a half tells its area, pass, unit and half in the record, and the record
+-- the bit of a half tells luma or chroma, its pass, unit and half in the record, and the record
 record Told (G H : Grid) (d d′ : Pass) (u u′ j j′ : ℕ) : Type 0 where
-  area : G .luma ≡ H .luma
+  luma : G .luma ≡ H .luma
   pass : passNo d ≡ passNo d′
   unit : u % side G d ≡ u′ % side H d′
   halfNo : j % 2 ≡ j′ % 2
@@ -123,7 +123,7 @@ told G H p q d d′ u u′ k k′ j j′ b b′ x x′ y y′ e =
     let w′ = word-in (H .luma) d′ (u′ % side H d′) k′ (j′ % 2) s′ x′ (omega arith) in
     let z : wordIn G d (u % side G d) k (j % 2) ≡ wordIn H d′ (u′ % side H d′) k′ (j′ % 2) = omega arith in
     let i = word-inj (G .luma) (H .luma) d d′ (u % side G d) (u′ % side H d′) k k′ (j % 2) (j′ % 2) s s′ x x′ (omega arith) (omega arith) z in
-    record { area = i .0; pass = i .1; unit = i .2; halfNo = i .3; recordNo = omega arith }
+    record { luma = i .0; pass = i .1; unit = i .2; halfNo = i .3; recordNo = omega arith }
 
 -- one grid and pass
 
@@ -195,8 +195,8 @@ module _ (c : Call) (h : Shaped c) where
       go : (b b′ : Bool) → q .0 < unitsOf (G b′) d′ → q .1 < unitsOf (G b′) (other d′) → Across (G b) d (sb4 c) (c .row) u → Along (G b) d (sb4 c) (c .row) j
           → Told (G b) (G b′) d d′ u (q .0) j (q .1 / half (G b′) d′) → OwnLine (G b′) (sb4 c) (c .row) 0 (down d′ q)
       go true true x y a l t = of-row (gridOf c 0) (proper c 0) (sb4 c) (c .row) (sizes c h) d d′ q u j x y a l t
-      go true false x y a l t = absurd (false≢true (sym (t .area)))
-      go false true x y a l t = absurd (false≢true (t .area))
+      go true false x y a l t = absurd (false≢true (sym (t .luma)))
+      go false true x y a l t = absurd (false≢true (t .luma))
       go false false x y a l t = of-row (gridOf c 1) (proper c 1) (sb4 c) (c .row) (sizes c h) d d′ q u j x y a l t
 
   own-bit : (n u k j b : ℕ) → Across (gridOf c n) (callPass c) (sb4 c) (c .row) u → Along (gridOf c n) (callPass c) (sb4 c) (c .row) j

@@ -84,9 +84,9 @@ module _ (f : ℕ → ℕ) where
         row-kept (at + 4 * (h * level-stride)) (fillLevels at level-stride w h (f 0) (f 1) l) w p (λ i k q r. n i h k q (omega arith) r)
         ∙ rows-kept h p (λ i j k a c. n i j k a (omega arith))
 
--- ---- an area of units
+-- ---- a rectangle of units
 
--- the area of w by h units at (x, y), where it is given: the two kinds of byte from `base` on are f
+-- the rectangle of w by h units at (x, y), where it is given: its bytes in the two areas from `base` on are f
 record Filled (given : Bool) (level-stride x y w h base : ℕ) (f : ℕ → ℕ) (before after : List ℕ) : Type 0 where
   long : length after ≡ length before
   stored : given ≡ true → (i j k : ℕ) → i < w → j < h → k < 2 → getD after (levelAt level-stride (x + i) (y + j) (base + k)) 0 ≡ f k

@@ -33,13 +33,13 @@ use Rattle.recorded_edges.specs.Example.{frameWith, codedAt, blockAt, le
 
 -- what an accepted call leaves
 abbrev left : ℕ → ℕ → List ℕ → Lent
-left wide first l =
-    lent (lumaLevels (blockAt wide first) 18 (replicate 64 0) (replicate 144 0)) (lumaMasks (blockAt wide first) [] (2 ∷ 2 ∷ []) l (replicate 640 0))
-    (lumaAbove (blockAt wide first) [] (2 ∷ 2 ∷ [])) (lumaLeft (blockAt wide first) [] l) [] []
+left width first l =
+    lent (lumaLevels (blockAt width first) 18 (replicate 64 0) (replicate 144 0)) (lumaMasks (blockAt width first) [] (2 ∷ 2 ∷ []) l (replicate 640 0))
+    (lumaAbove (blockAt width first) [] (2 ∷ 2 ∷ [])) (lumaLeft (blockAt width first) [] l) [] []
 
-holds : (wide first before t : ℕ) → first % 2 ≡ 0 → HoldsBlock (frameWith wide first before t) 0 (codedAt first) true (blockAt wide first) []
+holds : (width first before t : ℕ) → first % 2 ≡ 0 → HoldsBlock (frameWith width first before t) 0 (codedAt first) true (blockAt width first) []
 unfolding Num_4x4_Blocks_Wide Num_4x4_Blocks_High
-holds wide first before t e =
+holds width first before t e =
     record {
       plane-is = refl;
       right-ss = refl;

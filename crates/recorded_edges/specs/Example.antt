@@ -1,5 +1,5 @@
 -- Three blocks that meet the hypotheses, intra, each with one transform: two of 8x8 at 4:0:0, and one of 16x16 at 4:2:0.
---   frameWith wide first before t    the standard's frame of `wide` by 8 samples: blocks of 8x8 from unit `first` on, before it those of code `before` with transform t
+--   frameWith width first before t   the standard's frame of `width` by 8 samples: blocks of 8x8 from unit `first` on, before it those of code `before` with transform t
 --   codedAt, blockAt                 the block at unit `first`, in the frame and of the call
 --   lentWith left                    clear masks, contexts above as a frame begins, and `left` on the left
 --   Beside       document 01's example of a listing: 16 by 8 samples, a block at unit 2 beside one at unit 0, whose context tells 8x8. The edge between them is 8 wide
@@ -26,9 +26,9 @@ use Rattle.covering.specs.Standard.{transformAt}
 use Rattle.recorded_edges.specs.Held.{blockGrid, SeenIn, HoldsBlock, ContextTells, standardEdge, widthIn}
 
 abbrev pub frameWith : ℕ → ℕ → ℕ → ℕ → Frame
-frameWith wide first before t =
+frameWith width first before t =
     record {
-      FrameWidth = wide;
+      FrameWidth = width;
       FrameHeight = 8;
       sx = λ _. 0;
       sy = λ _. 0;
@@ -42,7 +42,7 @@ abbrev pub codedAt : ℕ → Coded
 codedAt first = record { MiRow = 0; MiCol = first; MiSize = 3; Skip = false; isIntra = true }
 
 abbrev pub blockAt : ℕ → ℕ → Block
-blockAt wide first = intraOf wide 8 400 first 0 3 1 0 0
+blockAt width first = intraOf width 8 400 first 0 3 1 0 0
 
 abbrev pub lentWith : List ℕ → Lent
 lentWith left = lent (replicate 144 0) (replicate 640 0) (2 ∷ 2 ∷ []) left [] []

@@ -3,6 +3,7 @@
 --   orUnits         those of w units side by side
 --   orLevels        those of w units in n lines from `first` on
 --   fourLines       the samples at one place of four lines
+--   orQuad          w samples of four lines
 --   orSamples       w samples in 4 * n lines from line 4 * first on
 use mathlib.Core.List.{List}
 use Prim.Native.Nat.{ℕ, _+_, _*_}

@@ -39,7 +39,7 @@ use Rattle.tiles.proofs.Edges.{edges}
 differ : columns ≡ rows → ⊥
 differ e = let z = ap passNo e in omega arith
 
-module _ (a b h : ℕ) (past : 0 < a) (wide : a < b) where
+module _ (a b h : ℕ) (past : 0 < a) (before-end : a < b) where
   abbrev T : Tile
   T = record { x0 = 0; x1 = a; y0 = 0; y1 = h }
 

@@ -1,4 +1,4 @@
--- `kinds` meets its contract: the flag settles the count.
+-- `areas` meets its contract: the flag settles the count.
 use mathlib.Core.Path.{refl}
 use native.Mathlib.Omega.{arith}
 use borrow.Author.Tests.{eq-eqb, ne-eqb}

@@ -1,4 +1,4 @@
--- `calc_kind` meets its contract: the callee's sixteen values are the area's, by the laws of Sixteen.
+-- `calc_area` meets its contract: the callee's sixteen values are the area's, by the laws of Sixteen.
 use borrow.Author.Needs.{needs}
 use Rattle.levels.proofs.Sixteen.{luma-area, chroma-area}
 use Rattle.levels.proofs.calc_area.Statement.{statement}

@@ -1,4 +1,4 @@
--- `group_left` meets its contract: the product of two bounded numbers.
+-- `record_left` meets its contract: the product of two bounded numbers.
 use native.Mathlib.Omega.{arith}
 use Rattle.filter.proofs.LineWords.{left-le}
 use borrow.Author.Needs.{needs}
