@@ -11,8 +11,8 @@ use Rattle.standard.specs.Sizes.{Num_4x4_Blocks_Wide, Num_4x4_Blocks_High, Tx_W
 use Rattle.standard.specs.Edge.{Frame, applyFilter, edgeSize}
 use Rattle.standard.specs.FilterSize.{filterLen}
 use Rattle.mask_edges.specs.Recording.{Block, columns, isEdge, classAt, contextAfter, chromaBlock}
+use Rattle.walk.specs.Walk.{widthOf}
 use Rattle.agree.specs.Legal.{Coded, Legal, Shows, Tells}
-use Rattle.agree.specs.Promises.{widthOf}
 use Rattle.agree.proofs.Theorems.{promises}
 
 abbrev frame : Frame

@@ -7,7 +7,7 @@ use native.Mathlib.Omega.{arith}
 use lib.Dec.{eqb}
 use Rattle.loops.specs.Any.{Below}
 use Rattle.loops.specs.Exactly.{Reflects}
-use Rattle.loops.proofs.Reflected.{reflects-eqb, reflects-flag, reflects-and, reflects-any}
+use Rattle.loops.proofs.Reflected.{reflects-eqb, reflects-flag, reflects-and, reflects-any, reflects-same}
 use Rattle.bits.specs.Mark.{isSet}
 use Rattle.standard.specs.Sizes.{Tx_Wide, Tx_High}
 use Rattle.units.specs.Masks.{halfUnits, lumaBit, chromaBit}
@@ -16,7 +16,6 @@ use Rattle.units.proofs.Places.{half-in, luma-bit-inj, chroma-bit-inj}
 use Rattle.mask_edges.specs.Recording.{Block, Sweep, columns, rows, isEdge, classAt, edges, Recorded, chromaBits}
 use Rattle.mask_edges.proofs.BlockPasses.{chroma-low}
 use Rattle.mask_edges.proofs.CellTables.{luma-low}
-use Rattle.mask_edges.proofs.Halves.{reflects-same}
 
 -- ---- no two edges share a bit
 
@@ -88,8 +87,8 @@ module _ (S : Sweep) (bit : ℕ → ℕ → ℕ → ℕ) where
 
 -- ---- a block's
 
-module _ (B : Block) (luma : Bool) (ss-hor ss-ver : ℕ) (sh : ss-hor ≤ 1) (sv : ss-ver ≤ 1) (blockWidth : B .bx4 + B .w4 ≤ 2 * halfUnits ss-hor)
-    (blockHeight : B .by4 + B .h4 ≤ 2 * halfUnits ss-ver) (low : (n : ℕ) → B .class n < count luma) (before after : List ℕ)
+module _ (B : Block) (luma : Bool) (ss-hor ss-ver : ℕ) (sh : ss-hor ≤ 1) (sv : ss-ver ≤ 1) (fits-right : B .bx4 + B .w4 ≤ 2 * halfUnits ss-hor)
+    (fits-down : B .by4 + B .h4 ≤ 2 * halfUnits ss-ver) (low : (n : ℕ) → B .class n < count luma) (before after : List ℕ)
     (R : Recorded B (bits luma ss-hor ss-ver) before after) (x y : ℕ) (hx : x < B .w4) (hy : y < B .h4) (k : ℕ) (hk : k < count luma) where
   abbrev column-bit : ℕ
   column-bit = bits luma ss-hor ss-ver 0 (B .bx4 + x) k (B .by4 + y)

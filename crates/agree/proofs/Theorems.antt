@@ -14,8 +14,9 @@ use Rattle.units.specs.Masks.{halfUnits}
 use Rattle.units.specs.Sizes.{lumaClass, chromaClass, Side, BlockRule}
 use Rattle.units.proofs.Rules.{block-rule, tx-rule}
 use Rattle.mask_edges.specs.Recording.{Block, Sweep, columns, rows, isEdge, classBefore, classAt, contextAfter, Recorded}
+use Rattle.walk.specs.Walk.{widthOf}
 use Rattle.agree.specs.Legal.{Coded, lumaWidth, lumaHeight, left, top, blockWidth, blockHeight, rowAt, colAt, Legal, classOf, sideOf, Shows, Tells}
-use Rattle.agree.specs.Promises.{widthOf, start, Agrees, bitsOf, classes, Marks, Promises}
+use Rattle.agree.specs.Promises.{start, Agrees, bitsOf, classes, Marks, Promises}
 use Rattle.agree.proofs.Widths.{width-same}
 use Rattle.agree.proofs.Axis.{own-unit, prev-unit, same-unit, covered, tx-test, block-test}
 use Rattle.agree.proofs.Marked.{class-low, in-columns, in-rows}
@@ -197,7 +198,7 @@ module _ (D : Frame) (plane : ℕ) (C : Coded) (B : Block) (S : Shows D plane C 
           corrected = λ z e c q. corrected plane 1 (rows B) x Y (λ r. D .TxSizes plane r (X + x)) (S .class) (down x h) y k z e c q ∙ to-above;
         }
 
-    module _ (blockWidth : B .bx4 + B .w4 ≤ 2 * halfUnits (D .sx plane)) (blockHeight : B .by4 + B .h4 ≤ 2 * halfUnits (D .sy plane)) (before after : List ℕ)
+    module _ (fits-right : B .bx4 + B .w4 ≤ 2 * halfUnits (D .sx plane)) (fits-down : B .by4 + B .h4 ≤ 2 * halfUnits (D .sy plane)) (before after : List ℕ)
         (R : Recorded B (bitsOf D plane) before after) where
       low : (n : ℕ) → B .class n < classes plane
       low n = rw (S .class n) (class-low (eqb plane 0) n)
@@ -206,14 +207,14 @@ module _ (D : Frame) (plane : ℕ) (C : Coded) (B : Block) (S : Shows D plane C 
       columns-mark =
           record {
             bit = λ c q. rw columns-edge at
-                (in-columns B (eqb plane 0) (D .sx plane) (D .sy plane) (L .across .sub) (L .down .sub) blockWidth blockHeight low before after R x y h k c q);
+                (in-columns B (eqb plane 0) (D .sx plane) (D .sy plane) (L .across .sub) (L .down .sub) fits-right fits-down low before after R x y h k c q);
           }
 
       rows-mark : Marks D plane 1 row col (rows B) y x before after
       rows-mark =
           record {
             bit = λ c q. rw rows-edge at
-                (in-rows B (eqb plane 0) (D .sx plane) (D .sy plane) (L .across .sub) (L .down .sub) blockWidth blockHeight low before after R x y h k c q);
+                (in-rows B (eqb plane 0) (D .sx plane) (D .sy plane) (L .across .sub) (L .down .sub) fits-right fits-down low before after R x y h k c q);
           }
 
 -- ---- the frame's own border

@@ -8,9 +8,8 @@ use Rattle.loops.specs.Table.{Each}
 use Rattle.loops.proofs.Tables.{each-at}
 use Rattle.standard.specs.FilterSize.{filterSize, filterLen}
 use Rattle.units.specs.Sizes.{log2, lumaClass, chromaClass, Side}
-use Rattle.walk.specs.Walk.{lenOf}
+use Rattle.walk.specs.Walk.{lenOf, widthOf}
 use Rattle.agree.specs.Legal.{classOf}
-use Rattle.agree.specs.Promises.{widthOf}
 
 -- of luma or chroma
 abbrev class : Bool → ℕ → ℕ

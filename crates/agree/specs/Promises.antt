@@ -1,5 +1,4 @@
 -- What a legal block records is what the standard filters.
---   widthOf plane c      the width of a class
 --   start plane          what a context holds at a tile's start: the highest class
 --   Agrees               of one unit and pass: it has an edge exactly where applyFilter holds, and the edge's class is the standard's filter
 --   bitsOf, classes      the bits of a plane's edges, and how many classes it has
@@ -15,13 +14,10 @@ use Rattle.standard.specs.Edge.{Frame, onScreen, applyFilter, edgeSize}
 use Rattle.standard.specs.FilterSize.{filterSize, filterLen}
 use Rattle.units.specs.Masks.{halfUnits, lumaBit}
 use Rattle.units.specs.Sizes.{Side}
-use Rattle.walk.specs.Walk.{lenOf}
+use Rattle.walk.specs.Walk.{widthOf}
 use Rattle.decomp.specs.Split.{txAt}
 use Rattle.mask_edges.specs.Recording.{Block, Sweep, columns, rows, isEdge, classAt, contextAfter, Recorded, chromaBits, intraBlock, interBlock, chromaBlock}
 use Rattle.agree.specs.Legal.{Coded, left, top, rowAt, colAt, Legal, classOf, Shows, Tells, Sized}
-
-abbrev pub widthOf : ℕ → ℕ → ℕ
-widthOf plane = lenOf (eqb plane 0)
 
 abbrev pub start : ℕ → ℕ
 start plane = cond (eqb plane 0) 2 1

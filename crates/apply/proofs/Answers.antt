@@ -1,28 +1,23 @@
 -- What the parts of a call leave is its answer: the pass over the three planes, where one that is not filtered has no edges and stays.
-use mathlib.Core.Path.{_≡_, refl, sym, ap, _∙_}
+use mathlib.Core.Path.{_≡_, refl, sym, _∙_}
 use mathlib.Core.Bool.{Bool, true, false, cond}
 use mathlib.Core.List.{List}
-use mathlib.Core.Option.{Option, none}
-use Prim.Native.Nat.{ℕ, zero, suc}
+use Prim.Native.Nat.{ℕ}
 use native.Mathlib.Omega.{arith}
 use borrow.Author.Tests.{ne-eqb}
 use Rattle.loops.proofs.Runs.{upTo-idle}
 use Rattle.plane.specs.Line.{Pass, columns, rows, Piece, passOf}
-use Rattle.plane.specs.Plane.{Plane, inner, act, colsOf, rowsOf}
+use Rattle.plane.specs.Plane.{Plane, act, colsOf, rowsOf}
 use Rattle.plane.specs.Three.{Three, colsCall, rowsCall}
-use Rattle.plane.proofs.Pieces.{idle}
+use Rattle.plane.proofs.Pieces.{idle, inner-none}
 use Rattle.filter.specs.Filter.{Tables, planeOf, sweepOf}
 use Rattle.filter.proofs.Sweeps.{promises}
 use Rattle.checks.specs.declared.Call.{Call}
 use Rattle.checks.specs.Call.{Lent, chromaOn}
 use Rattle.checks.specs.Tests.{number}
-use Rattle.apply.specs.Apply.{componentOf, Limits, tablesOf, shown, planeAt, planesOf, three, threeOf, passCall, swept, sweptIf, FilterAnswer}
+use Rattle.apply.specs.Apply.{componentOf, Limits, tablesOf, shown, three, threeOf, swept, sweptIf, FilterAnswer}
 
 -- ---- a plane with no edges stays
-
-inner-none : (u : ℕ) → inner u none ≡ none
-inner-none zero = refl
-inner-none (suc u) = refl
 
 module _ (P : Plane) where
   none-done : (d : Pass) (p : Piece) (s : List ℕ) → act (shown false P) d p s ≡ s
@@ -30,11 +25,11 @@ module _ (P : Plane) where
 
   cols-none : (k : ℕ) (s : List ℕ) → colsOf (shown false P) k s ≡ s
   unfolding colsOf
-  cols-none k = upTo-idle _ 0 (P .records) (λ g _. upTo-idle _ 0 (P .recordUnits) (λ x _. upTo-idle _ 0 (P .sb) (λ y _. none-done columns _) (omega arith)) (omega arith)) (omega arith)
+  cols-none k = upTo-idle _ 0 (P .records) (λ rec _. upTo-idle _ 0 (P .recordUnits) (λ x _. upTo-idle _ 0 (P .sb) (λ y _. none-done columns _) (omega arith)) (omega arith)) (omega arith)
 
   rows-none : (k : ℕ) (s : List ℕ) → rowsOf (shown false P) k s ≡ s
   unfolding rowsOf
-  rows-none k = upTo-idle _ 0 (P .records) (λ g _. upTo-idle _ 0 (P .sb) (λ y _. upTo-idle _ 0 (P .recordUnits) (λ x _. none-done rows _) (omega arith)) (omega arith)) (omega arith)
+  rows-none k = upTo-idle _ 0 (P .records) (λ rec _. upTo-idle _ 0 (P .sb) (λ y _. upTo-idle _ 0 (P .recordUnits) (λ x _. none-done rows _) (omega arith)) (omega arith)) (omega arith)
 
   pub shown-cols : (on : Bool) (k : ℕ) (s : List ℕ) → colsOf (shown on P) k s ≡ cond on (colsOf P k s) s
   shown-cols true k s = refl

@@ -22,26 +22,26 @@ use Rattle.apply.proofs.Answers.{shown-cols, shown-rows}
 -- ---- chroma is filtered, and the test says so
 
 module _ (c : Call) where
-  abbrev Plain : Type 0
-  Plain = (¬ (c .layout ≡ 400)) × (¬ ((c .«level_u» ≡ 0) × (c .«level_v» ≡ 0)))
+  abbrev pub FiltersChroma : Type 0
+  FiltersChroma = (¬ (c .layout ≡ 400)) × (¬ ((c .«level_u» ≡ 0) × (c .«level_v» ≡ 0)))
 
-  plain-u : Filtered c 1 → Plain
-  plain-u (chroma-u a b) = (a, b)
+  pub u-filters : Filtered c 1 → FiltersChroma
+  u-filters (chroma-u a b) = (a, b)
 
-  plain-v : Filtered c 2 → Plain
-  plain-v (chroma-v a b) = (a, b)
+  pub v-filters : Filtered c 2 → FiltersChroma
+  v-filters (chroma-v a b) = (a, b)
 
-  is-on : Plain → chromaOn c ≡ true
+  is-on : FiltersChroma → chromaOn c ≡ true
   is-on p = go (chromaOn c) (reflects-on c)
     where
-      go : (b : Bool) → Reflects b Plain → b ≡ true
+      go : (b : Bool) → Reflects b FiltersChroma → b ≡ true
       go true r = refl
       go false r = absurd (r .no refl p)
 
-  is-off : ¬ Plain → chromaOn c ≡ false
+  is-off : ¬ FiltersChroma → chromaOn c ≡ false
   is-off n = go (chromaOn c) (reflects-on c)
     where
-      go : (b : Bool) → Reflects b Plain → b ≡ false
+      go : (b : Bool) → Reflects b FiltersChroma → b ≡ false
       go true r = absurd (n (r .yes refl))
       go false r = refl
 
@@ -81,7 +81,7 @@ module _ (c : Call) (l : Limits) (m : Lent) where
     chosen : {b : Bool} (pick : Three (List ℕ) → List ℕ) (x y : List ℕ) → r ≡ 0 → (r ≡ 0 → pick after ≡ cond (chromaOn c) x y) → chromaOn c ≡ b → pick after ≡ cond b x y
     chosen pick x y e f o = f e ∙ ap (λ (b : Bool). cond b x y) o
 
-    stays : (pick : Three (List ℕ) → List ℕ) (x : List ℕ) → (r ≡ 0 → pick after ≡ cond (chromaOn c) x (pick (threeOf m))) → ¬ Plain c → pick after ≡ pick (threeOf m)
+    stays : (pick : Three (List ℕ) → List ℕ) (x : List ℕ) → (r ≡ 0 → pick after ≡ cond (chromaOn c) x (pick (threeOf m))) → ¬ FiltersChroma c → pick after ≡ pick (threeOf m)
     stays pick x f n =
         by-cases (ℕ-discrete r 0) (λ e. chosen pick x (pick (threeOf m)) e f (is-off c n)) (λ e. ap pick (refused e))
 
@@ -100,8 +100,8 @@ module _ (c : Call) (l : Limits) (m : Lent) where
           zero = along (numbers .zero c m);
           refused = refused;
           luma = λ e. ap (λ (t : Three (List ℕ)). t .luma) (done e);
-          u = λ e f. chosen (λ t. t .u) _ (m .u) e (λ z. ap (λ (t : Three (List ℕ)). t .u) (done z)) (is-on c (plain-u c f));
-          v = λ e f. chosen (λ t. t .v) _ (m .v) e (λ z. ap (λ (t : Three (List ℕ)). t .v) (done z)) (is-on c (plain-v c f));
+          u = λ e f. chosen (λ t. t .u) _ (m .u) e (λ z. ap (λ (t : Three (List ℕ)). t .u) (done z)) (is-on c (u-filters c f));
+          v = λ e f. chosen (λ t. t .v) _ (m .v) e (λ z. ap (λ (t : Three (List ℕ)). t .v) (done z)) (is-on c (v-filters c f));
           u-stays = λ n. stays (λ t. t .u) _ (λ z. ap (λ (t : Three (List ℕ)). t .u) (done z)) (λ p. n (chroma-u (p .0) (p .1)));
           v-stays = λ n. stays (λ t. t .v) _ (λ z. ap (λ (t : Three (List ℕ)). t .v) (done z)) (λ p. n (chroma-v (p .0) (p .1)));
         }

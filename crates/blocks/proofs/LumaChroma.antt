@@ -29,13 +29,8 @@ use Rattle.drawn.specs.Calls.{atBlock, RecordCall, Records, coded, lumaSeen, lu
 use Rattle.drawn.specs.Run.{partIn, DrawsBlock, Unchanged, Tallies}
 use Rattle.drawn.proofs.Calls.{Shape, luma-shape, chroma-place-is}
 use Rattle.drawn.proofs.Theorems as drawn
+use Rattle.loops.proofs.Bools.{and-turn}
 use Rattle.blocks.specs.Laid.{TileArea, axisOf, blockPart, LumaLegal, ChromaLegal, LumaLong, ChromaLong}
-
-and-turn : (a b : Bool) → (a && b) ≡ (b && a)
-and-turn true true = refl
-and-turn true false = refl
-and-turn false true = refl
-and-turn false false = refl
 
 -- a list with what follows `at` put anew
 put-long : (at : ℕ) (l a : List ℕ) → length a ≡ length (drop at l) → length (take at l ++ a) ≡ length l

@@ -1,14 +1,14 @@
 -- Each test reflects its fault: the comparisons that it is made of, the scans, and the planes that are filtered.
-use mathlib.Core.Bool.{Bool, true, false, not}
+use mathlib.Core.Bool.{Bool, not}
 use mathlib.Core.List.{List}
 use mathlib.Core.Logic.{_⊎_, inl, inr, ⊎-elim, by-cases}
-use mathlib.Core.Path.{_≡_, refl}
+use mathlib.Core.Path.{_≡_}
 use Prim.Native.Nat.{ℕ, _-_, _*_, _^_, _<_, _≤_}
 use native.Mathlib.Decide.{decLt}
 use native.Mathlib.Omega.{arith}
 use lib.ListN.{length}
 use Rattle.loops.specs.Exactly.{Reflects}
-use Rattle.loops.proofs.Reflected.{reflects-ltb, reflects-eqb, reflects-as, reflects-not, reflects-and, reflects-or}
+use Rattle.loops.proofs.Reflected.{reflects-ltb, reflects-eqb, reflects-as, reflects-not, reflects-and, reflects-or, settled}
 use Rattle.units.specs.Units.{chromaUnit}
 use Rattle.units.specs.Layout.{Layout}
 use Rattle.units.specs.Frame.{frameRecords, stored, superblocks}
@@ -30,10 +30,6 @@ use Rattle.checks.specs.Faults.{LengthFault, stride-below, levels-short,
 use Rattle.checks.specs.Faults.{SampleFault, stride-short, too-short, too-high, PlaneFault, RowFault, GapFault, MaskFault}
 use Rattle.checks.proofs.TestsPassed.{proper}
 
-settled : {P : Type 0} (b : Bool) → Reflects b P → ¬ (¬ P) → P
-settled true r n = r .yes refl
-settled false r n = absurd (n (r .no refl))
-
 module _ (c : Call) where
   -- ---- numbers 2, 3, 4 and 7
 
@@ -44,7 +40,7 @@ module _ (c : Call) where
       (reflects-and (reflects-not (reflects-chroma (c .layout))) (reflects-or (reflects-not (reflects-eqb (c .«level_u») 0)) (reflects-not (reflects-eqb (c .«level_v») 0)))))
     where
       none : ¬ (¬ (c .layout ≡ 400)) → c .layout ≡ 400
-      none n = settled _ (reflects-eqb (c .layout) 400) n
+      none n = settled (reflects-eqb (c .layout) 400) n
 
       plain : LevelFault c → ((63 < c .«level_u») ⊎ (63 < c .«level_v»)) ⊎ ((¬ (¬ (c .layout ≡ 400))) × ((¬ (c .«level_u» ≡ 0)) ⊎ (¬ (c .«level_v» ≡ 0))))
       plain (u-above h) = inl (inl h)

@@ -35,11 +35,11 @@ module _ (c : Call) where
   unit-0 n = omega arith
 
   module _ (ls : List ℕ) where
-    abbrev height : ℕ → Bool
-    height plane =
+    abbrev too-high : ℕ → Bool
+    too-high plane =
         levelsHigh ls (c .«level_stride») (areaOf c plane) (unitsOf (gridOf c plane) columns) (unitsOf (gridOf c plane) rows) (sbUnits (gridOf c plane) (sb4 c)) (passNo (callPass c)) (c .row)
 
-    luma-high : lumaLevelsHigh ls (c .«level_stride») (w4 c) (h4 c) (sb4 c) (callPass c) (c .row) ≡ height 0
+    luma-high : lumaLevelsHigh ls (c .«level_stride») (w4 c) (h4 c) (sb4 c) (callPass c) (c .row) ≡ too-high 0
     luma-high i = levelsHigh ls (c .«level_stride») (areaOf c 0) (units-0 (w4 c) i) (units-0 (h4 c) i) (unit-0 (sb4 c) i) (passNo (callPass c)) (c .row)
 
     pub levels-out : inside c ≡ false → false ≡ levelsBad c ls
@@ -49,13 +49,13 @@ module _ (c : Call) where
     pub levels-luma : {r : Bool} → inside c ≡ true → chromaOn c ≡ false
         → r ≡ lumaLevelsHigh ls (c .«level_stride») (w4 c) (h4 c) (sb4 c) (callPass c) (c .row) → r ≡ levelsBad c ls
     unfolding levelsBad
-    levels-luma e o h = rw e (luma-only height o (h ∙ luma-high))
+    levels-luma e o h = rw e (luma-only too-high o (h ∙ luma-high))
 
     pub levels-all : {r s : Bool} → inside c ≡ true → chromaOn c ≡ true
         → r ≡ lumaLevelsHigh ls (c .«level_stride») (w4 c) (h4 c) (sb4 c) (callPass c) (c .row)
         → s ≡ chromaLevelsHigh ls (c .«level_stride») (w4 c) (h4 c) (ss-hor c 1) (ss-ver c 1) (sb4 c) (callPass c) (c .row) → (r || s) ≡ levelsBad c ls
     unfolding levelsBad
-    levels-all e o h k = rw e (with-chroma height o (h ∙ luma-high) k)
+    levels-all e o h k = rw e (with-chroma too-high o (h ∙ luma-high) k)
 
   -- ---- number 9
 

@@ -22,7 +22,7 @@ use Rattle.units.proofs.Tests.{reflects-chroma}
 use Rattle.block.specs.Tests.{contextBad}
 use Rattle.loops.proofs.Bools.{or-off}
 use Rattle.edges.specs.Edges.{classes, unitsOf, highest, edge}
-use Rattle.edges.proofs.Bits.{edge-bit-in, edge-bit-inj, kinds-apart, highest-one}
+use Rattle.edges.proofs.Bits.{edge-bit-in, edge-bit-inj, luma-chroma-apart, highest-one}
 use Rattle.correct.specs.declared.Start.{Start}
 use Rattle.correct.specs.Start.{w4, h4, gridAt, begin, across, first, lineOf, inside, corrects, Inside}
 use Rattle.correct.specs.Correct.{oldClass, correctLine, lineDone, planeDone, done}
@@ -175,7 +175,7 @@ module _ (t : Start) (context context-uv ms : List ℕ) where
 
     apart : (p q : Piece) (c k : ℕ) → c < 3 → k < 2 → ¬ (bitAt t true p c ≡ bitAt t false q k)
     apart p q c k =
-        kinds-apart (gridAt t true) (gridAt t false) (proper t true) (proper t false) refl refl (passOf (t .rowwise)) (passOf (t .rowwise)) p q c k
+        luma-chroma-apart (gridAt t true) (gridAt t false) (proper t true) (proper t false) refl refl (passOf (t .rowwise)) (passOf (t .rowwise)) p q c k
 
     unit-bits : 0 < begin t → (luma : Bool) (p : Piece) → CorrectedUnit t luma p → (c : ℕ) → c < cond luma 3 2
         → isSet final (bitAt t luma p c) ≡ eqb c (newClass t luma context context-uv ms p)

@@ -18,16 +18,16 @@ use Rattle.bits.proofs.Marks.{length-mark, isSet-mark, length-unmark, isSet-unm
 use Rattle.correct.specs.Correct.{oldClass, cleared, corrected}
 use Rattle.correct.proofs.Steps.{old-lt}
 
--- how many classes a kind of plane has, and one more of luma
-abbrev kinds : Bool → ℕ
-kinds luma = cond luma 3 2
+-- how many classes luma and chroma have, and one more of luma
+abbrev classesOf : Bool → ℕ
+classesOf luma = cond luma 3 2
 
-some-kinds : (luma : Bool) (c : ℕ) → c < kinds luma → c < cond luma 4 2
-some-kinds true c h = omega arith
-some-kinds false c h = h
+some-classes : (luma : Bool) (c : ℕ) → c < classesOf luma → c < cond luma 4 2
+some-classes true c h = omega arith
+some-classes false c h = h
 
 -- the old class looks at the plane's own classes
-pub old-same : (luma : Bool) (f g : ℕ → Bool) → ((c : ℕ) → c < kinds luma → f c ≡ g c) → oldClass luma f ≡ oldClass luma g
+pub old-same : (luma : Bool) (f g : ℕ → Bool) → ((c : ℕ) → c < classesOf luma → f c ≡ g c) → oldClass luma f ≡ oldClass luma g
 old-same true f g h = rw (h 1 (omega arith), h 2 (omega arith)) refl
 old-same false f g h = rw (h 1 (omega arith)) refl
 
@@ -59,30 +59,30 @@ module _ (luma : Bool) (bit : ℕ → ℕ) (context : ℕ) (ms : List ℕ) where
   pub length-corrected : length (corrected luma bit context ms) ≡ length ms
   unfolding corrected cleared
   length-corrected =
-      length-mark (upTo (λ c m. unmark m (bit c)) (kinds luma) ms) (bit new) ∙ length-unmarks bit (kinds luma) ms
+      length-mark (upTo (λ c m. unmark m (bit c)) (classesOf luma) ms) (bit new) ∙ length-unmarks bit (classesOf luma) ms
 
   module _ (room : (c : ℕ) → c < cond luma 4 2 → bit c / 16 < length ms) where
-    at : (x : ℕ) → isSet (corrected luma bit context ms) x ≡ ((isSet ms x && not (anyBelow (kinds luma) (λ c. eqb (bit c) x))) || eqb (bit new) x)
+    at : (x : ℕ) → isSet (corrected luma bit context ms) x ≡ ((isSet ms x && not (anyBelow (classesOf luma) (λ c. eqb (bit c) x))) || eqb (bit new) x)
     unfolding corrected cleared
     at x =
-        isSet-mark (upTo (λ c m. unmark m (bit c)) (kinds luma) ms) (bit new) x
-        (rw (length-unmarks bit (kinds luma) ms) (room new (omega (arith, old-lt luma (λ c. isSet ms (bit c))))))
-        ∙ ap (λ (b : Bool). b || eqb (bit new) x) (isSet-unmarks bit (kinds luma) ms (λ c l. room c (some-kinds luma c l)) x)
+        isSet-mark (upTo (λ c m. unmark m (bit c)) (classesOf luma) ms) (bit new) x
+        (rw (length-unmarks bit (classesOf luma) ms) (room new (omega (arith, old-lt luma (λ c. isSet ms (bit c))))))
+        ∙ ap (λ (b : Bool). b || eqb (bit new) x) (isSet-unmarks bit (classesOf luma) ms (λ c l. room c (some-classes luma c l)) x)
 
-    pub edge-own : ((c k : ℕ) → c < kinds luma → k < kinds luma → bit c ≡ bit k → c ≡ k) → new < kinds luma → (c : ℕ) → c < kinds luma
+    pub edge-own : ((c k : ℕ) → c < classesOf luma → k < classesOf luma → bit c ≡ bit k → c ≡ k) → new < classesOf luma → (c : ℕ) → c < classesOf luma
         → isSet (corrected luma bit context ms) (bit c) ≡ eqb c new
     edge-own inj n c h =
         at (bit c)
         ∙ ap (λ (b : Bool). (isSet ms (bit c) && not b) || eqb (bit new) (bit c))
-        (any-true (kinds luma) (λ k. eqb (bit k) (bit c)) c h (eq-eqb (bit c) (bit c) refl))
+        (any-true (classesOf luma) (λ k. eqb (bit k) (bit c)) c h (eq-eqb (bit c) (bit c) refl))
         ∙ ap (λ (b : Bool). b || eqb (bit new) (bit c)) (and-false (isSet ms (bit c)))
         ∙ by-cases (ℕ-discrete c new) (λ e. eq-eqb (bit new) (bit c) (ap bit (sym e)) ∙ sym (eq-eqb c new e))
         (λ f. ne-eqb (bit new) (bit c) (λ z. f (sym (inj new c n h z))) ∙ sym (ne-eqb c new f))
 
-    pub edge-other : new < kinds luma → (x : ℕ) → ((c : ℕ) → c < kinds luma → ¬ (bit c ≡ x)) → isSet (corrected luma bit context ms) x ≡ isSet ms x
+    pub edge-other : new < classesOf luma → (x : ℕ) → ((c : ℕ) → c < classesOf luma → ¬ (bit c ≡ x)) → isSet (corrected luma bit context ms) x ≡ isSet ms x
     edge-other n x h =
         at x
-        ∙ ap (λ (b : Bool). (isSet ms x && not b) || eqb (bit new) x) (any-false (kinds luma) (λ c. eqb (bit c) x) (λ c l. ne-eqb (bit c) x (h c l)))
+        ∙ ap (λ (b : Bool). (isSet ms x && not b) || eqb (bit new) x) (any-false (classesOf luma) (λ c. eqb (bit c) x) (λ c l. ne-eqb (bit c) x (h c l)))
         ∙ ap (λ (b : Bool). (isSet ms x && true) || b) (ne-eqb (bit new) x (h new n))
         ∙ or-false (isSet ms x && true)
         ∙ and-true (isSet ms x)
@@ -98,18 +98,18 @@ module _ (luma : Bool) (f : ℕ → ℕ → ℕ) (v : ℕ → ℕ) (ms : List �
   length-line (suc j) = length-corrected luma (f j) (v j) (after j) ∙ length-line j
 
   module _ (n : ℕ) (room : (i c : ℕ) → i < n → c < cond luma 4 2 → f i c / 16 < length ms)
-      (inj : (i j c k : ℕ) → i < n → j < n → c < kinds luma → k < kinds luma → f i c ≡ f j k → (i ≡ j) × (c ≡ k))
-      (range : (i : ℕ) → i < n → v i < kinds luma) where
+      (inj : (i j c k : ℕ) → i < n → j < n → c < classesOf luma → k < classesOf luma → f i c ≡ f j k → (i ≡ j) × (c ≡ k))
+      (range : (i : ℕ) → i < n → v i < classesOf luma) where
     in-line : (i j c : ℕ) → i < n → c < cond luma 4 2 → f i c / 16 < length (after j)
     in-line i j c h l = rw (length-line j) (room i c h l)
 
-    pub line-other : (j : ℕ) → j ≤ n → (x : ℕ) → ((i c : ℕ) → i < j → c < kinds luma → ¬ (f i c ≡ x)) → isSet (after j) x ≡ isSet ms x
+    pub line-other : (j : ℕ) → j ≤ n → (x : ℕ) → ((i c : ℕ) → i < j → c < classesOf luma → ¬ (f i c ≡ x)) → isSet (after j) x ≡ isSet ms x
     line-other zero h x o = refl
     line-other (suc j) h x o =
         edge-other luma (f j) (v j) (after j) (λ c. in-line j j c h) (omega (arith, range j h)) x (λ c. o j c (omega arith))
         ∙ line-other j (omega arith) x (λ i c l. o i c (omega arith))
 
-    pub line-own : (j : ℕ) → j ≤ n → (i c : ℕ) → i < j → c < kinds luma
+    pub line-own : (j : ℕ) → j ≤ n → (i c : ℕ) → i < j → c < classesOf luma
         → isSet (after j) (f i c) ≡ eqb c (min (oldClass luma (λ k. isSet ms (f i k))) (v i))
     line-own zero h i c l k = absurd (omega arith)
     line-own (suc j) h i c l k = by-cases (ℕ-discrete i j) same (λ g. other g (λ z. line-own j (omega arith) i c z k))

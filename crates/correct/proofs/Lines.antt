@@ -51,10 +51,10 @@ module _ (G : Grid) (d : Pass) (u first : ℕ) (context : List ℕ) where
   unfolding correctLine
   line-none ms = refl
 
-  pub line-step : (i e : ℕ) (ms₀ ms m : List ℕ) → ms ≡ correctLine G d u first i context ms₀ → e ≡ edgeBit G d (u, first + i) 0
+  pub line-more : (i e : ℕ) (ms₀ ms m : List ℕ) → ms ≡ correctLine G d u first i context ms₀ → e ≡ edgeBit G d (u, first + i) 0
       → m ≡ corrected (G .luma) (λ c. e + 32 * c) (getD context i 0) ms → m ≡ correctLine G d u first (i + 1) context ms₀
   unfolding correctLine
-  line-step i e ms₀ ms m p q r =
+  line-more i e ms₀ ms m p q r =
       upTo-again (λ i. corrected (G .luma) (edgeBit G d (u, first + i)) (getD context i 0)) i ms₀ p
       (r ∙ (λ t. corrected (G .luma) (bits t) (getD context i 0) ms))
     where

@@ -1,4 +1,4 @@
--- A tile's start as the code finds it: its units lie in the frame, since its superblocks do, at each kind of plane and in each pass.
+-- A tile's start as the code finds it: its units lie in the frame, since its superblocks do, in luma and in chroma and in each pass.
 use mathlib.Core.Path.{_≡_, refl, sym, ap, _∙_}
 use mathlib.Core.Bool.{Bool, true, false, cond, not, _&&_, _||_, and-eq-true-iff}
 use mathlib.Core.Logic.{_⊎_, inl, inr, ⊎-elim}
@@ -21,20 +21,20 @@ use Rattle.correct.specs.Tests.{shapeBad}
 
 -- ---- the plane
 
-kind-le : (luma : Bool) (ss : ℕ) → ss ≤ 1 → cond luma 0 ss ≤ 1
-kind-le true ss h = omega arith
-kind-le false ss h = h
+plane-ss-le : (luma : Bool) (ss : ℕ) → ss ≤ 1 → cond luma 0 ss ≤ 1
+plane-ss-le true ss h = omega arith
+plane-ss-le false ss h = h
 
-kind-0 : (luma : Bool) (ss : ℕ) → luma ≡ true → cond luma 0 ss ≡ 0
-kind-0 luma ss e = rw e refl
+luma-ss-0 : (luma : Bool) (ss : ℕ) → luma ≡ true → cond luma 0 ss ≡ 0
+luma-ss-0 luma ss e = rw e refl
 
 pub proper : (t : Start) (luma : Bool) → Proper (gridAt t luma)
 proper t luma =
     record {
-      ss-hor-le = kind-le luma (ssHor (t .layout)) (ss-hor-le (t .layout));
-      ss-ver-le = kind-le luma (ssVer (t .layout)) (ss-ver-le (t .layout));
-      luma-x = kind-0 luma (ssHor (t .layout));
-      luma-y = kind-0 luma (ssVer (t .layout));
+      ss-hor-le = plane-ss-le luma (ssHor (t .layout)) (ss-hor-le (t .layout));
+      ss-ver-le = plane-ss-le luma (ssVer (t .layout)) (ss-ver-le (t .layout));
+      luma-x = luma-ss-0 luma (ssHor (t .layout));
+      luma-y = luma-ss-0 luma (ssVer (t .layout));
     }
 
 -- ---- a start that passed the first test, and one inside the frame

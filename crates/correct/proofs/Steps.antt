@@ -1,4 +1,4 @@
--- What the code's calls make of one edge, whose bit of class c is e + 32 * c, is what the definitions say, at each kind of plane.
+-- What the code's calls make of one edge, whose bit of class c is e + 32 * c, is what the definitions say, in luma and in chroma.
 use mathlib.Core.Path.{_≡_, refl, _∙_}
 use mathlib.Core.Bool.{Bool, true, false, cond}
 use mathlib.Core.List.{List}

@@ -15,14 +15,10 @@ use Rattle.standard.specs.Edge.{Frame}
 use Rattle.units.specs.Units.{unitsOf, chromaUnits}
 use Rattle.edges.specs.Edges.{Grid, classes, inFrame, highest, edgeBit, edge}
 use Rattle.edges.specs.Edges as edges
-use Rattle.edges.proofs.Bits.{highest-one}
+use Rattle.edges.proofs.Bits.{highest-one, highest-none}
 use Rattle.covering.specs.Standard.{sideAt, edgeClass, visitedRow, visitedCol, appliesAt, filteredEdge}
+use Rattle.loops.proofs.Bools.{and-turn}
 use Rattle.drawn.specs.Run.{Tallies}
-
--- no class is set
-highest-none : (n : ℕ) (set : ℕ → Bool) → ((c : ℕ) → c < n → set c ≡ false) → highest n set ≡ none
-highest-none zero set h = refl
-highest-none (suc n) set h = rw (h n (omega arith)) (highest-none n set (λ c l. h c (omega arith)))
 
 pub eqb-turn : (a b : ℕ) → eqb a b ≡ eqb b a
 eqb-turn a b = by-cases (ℕ-discrete a b) (λ e. eq-eqb a b e ∙ sym (eq-eqb b a (sym e))) (λ n. ne-eqb a b n ∙ sym (ne-eqb b a (λ e. n (sym e))))
@@ -76,12 +72,6 @@ module _ (D : Frame) (plane : ℕ) (G : Grid) (A : Tallies D plane G) where
           by-cases (decLt u (chromaUnits ss (unitsOf W)))
           (λ l. lt-ltb _ W (on-screen u W ss h l) ∙ sym (lt-ltb u n (omega arith)))
           (λ l. le-ltb _ W (off-screen u W ss h l) ∙ sym (le-ltb u n (omega arith)))
-
-  and-turn : (a b : Bool) → (a && b) ≡ (b && a)
-  and-turn true true = refl
-  and-turn true false = refl
-  and-turn false true = refl
-  and-turn false false = refl
 
   in-frame : (d : Pass) (p : Piece) → inFrame G d p ≡ onScreen d p
   in-frame columns p = sym (screen (p .0) (p .1))

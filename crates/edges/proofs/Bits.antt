@@ -1,16 +1,16 @@
 -- The bits of edges: classes lie 32 bits apart, the bits of units in the frame lie in its records, and no two edges of a frame share one;
--- a bit is a record and a bit in it, and both are told by the laws of `units`, at each kind and each pass.
+-- a bit is a record and a bit in it, and both are told by the laws of `units`, in luma and in chroma and in each pass.
 use mathlib.Core.Path.{_≡_, refl, sym, ap, ap₂, _∙_}
 use mathlib.Core.Bool.{Bool, true, false, cond, false≢true}
 use mathlib.Core.Logic.{by-cases}
-use mathlib.Core.Option.{some}
+use mathlib.Core.Option.{some, none}
 use Prim.Native.Nat.{ℕ, zero, suc, _+_, _*_, _/_, _%_, _^_, _≤_, _<_}
-use native.Mathlib.Decide.{ℕ-discrete, decLt}
+use native.Mathlib.Decide.{ℕ-discrete}
 use native.Mathlib.Nat.{div-add-mod', mul-comm}
 use native.Mathlib.Omega.{arith}
 use lib.Dec.{eqb}
 use borrow.Author.Tests.{eq-eqb, ne-eqb}
-use Rattle.loops.proofs.Products.{row-in}
+use Rattle.loops.proofs.Products.{row-in, row-inj}
 use Rattle.loops.proofs.Tables.{each-at}
 use Rattle.plane.specs.Line.{Pass, columns, rows, Piece, other, passNo}
 use Rattle.plane.specs.Plane.{right, down}
@@ -20,7 +20,7 @@ use Rattle.units.specs.Units.{chromaUnits}
 use Rattle.units.proofs.Places.{by-ss, side-le, pass-lt, luma-bit-inj, chroma-bit-inj, luma-bit-in, chroma-bit-in}
 use Rattle.edges.specs.Edges.{Grid, Proper, ssOf, unitsOf, side, recordAt, classes, bitIn, edgeBit, highest}
 
--- ---- a bit in its record, b being the kind
+-- ---- a bit in its record, of luma or of chroma
 
 class-in : (b : Bool) (ss pass u c q : ℕ)
     → cond b (lumaBit pass u c q) (chromaBit ss pass u c q) ≡ cond b (lumaBit pass u 0 q) (chromaBit ss pass u 0 q) + 32 * c
@@ -35,27 +35,21 @@ class-apart G d p c =
     omega (arith, class-in (G .luma) (ssOf G (other d)) (passNo d) (p .0 % side G d) c (p .1 % side G (other d)))
 
 -- the units of a record of a plane
-two-halves : (ss : ℕ) → ss ≤ 1 → 32 / 2 ^ ss ≤ 2 * halfUnits ss
+pub two-halves : (ss : ℕ) → ss ≤ 1 → 32 / 2 ^ ss ≤ 2 * halfUnits ss
 two-halves = by-ss (λ ss. 32 / 2 ^ ss ≤ 2 * halfUnits ss) (omega arith) (omega arith)
 
-side-in : (ss u : ℕ) → ss ≤ 1 → u % (32 / 2 ^ ss) < 32 / 2 ^ ss
+pub side-in : (ss u : ℕ) → ss ≤ 1 → u % (32 / 2 ^ ss) < 32 / 2 ^ ss
 side-in ss u = by-ss (λ s. u % (32 / 2 ^ s) < 32 / 2 ^ s) (omega arith) (omega arith) ss
 
 records-in : (ss n u : ℕ) → ss ≤ 1 → u < chromaUnits ss n → u / (32 / 2 ^ ss) < records n
 records-in ss n u h = each-at 2 (λ s. u < chromaUnits s n → u / (32 / 2 ^ s) < records n) (λ l. omega arith, (λ l. omega arith, tt)) ss (omega arith)
 
--- a record is told by its numbers down and to the right
-row-inj : (a b x y n : ℕ) → x < n → y < n → a * n + x ≡ b * n + y → (a ≡ b) × (x ≡ y)
-row-inj a b x y n hx hy e =
-    by-cases (ℕ-discrete a b) (λ q. let z : a * n ≡ b * n = ap₂ (λ (i j : ℕ). i * j) q refl in (q, omega arith))
-    (λ f. by-cases (decLt a b) (λ l. absurd (omega (arith, row-in a b n l))) (λ l. absurd (omega (arith, row-in b a n (omega arith)))))
-
 module _ (G : Grid) (P : Proper G) where
-  ss-le : (d : Pass) → ssOf G d ≤ 1
+  pub ss-le : (d : Pass) → ssOf G d ≤ 1
   ss-le columns = P .ss-hor-le
   ss-le rows = P .ss-ver-le
 
-  luma-ss : (d : Pass) → G .luma ≡ true → ssOf G d ≡ 0
+  pub luma-ss : (d : Pass) → G .luma ≡ true → ssOf G d ≡ 0
   luma-ss columns = P .luma-x
   luma-ss rows = P .luma-y
 
@@ -163,8 +157,8 @@ module _ (G H : Grid) (P : Proper G) (Q : Proper H) (l : G .luma ≡ true) (m : 
       let z : q < 32 = rw (luma-ss G P (other d) l) at hq in
       rw l (luma-bit-in (passNo d) u c q (pass-lt d) hu h z)
 
-  height : (d : Pass) (u c q : ℕ) → u < 32 → c < classes H → q < 2 * halfUnits (ssOf H (other d)) → (6144 ≤ bitIn H d u c q) × (bitIn H d u c q < 10240)
-  height d u c q hu hc hq =
+  high : (d : Pass) (u c q : ℕ) → u < 32 → c < classes H → q < 2 * halfUnits (ssOf H (other d)) → (6144 ≤ bitIn H d u c q) × (bitIn H d u c q < 10240)
+  high d u c q hu hc hq =
       go (H .luma) m hc
     where
       go : (b : Bool) → b ≡ false → c < cond b 3 2
@@ -173,14 +167,19 @@ module _ (G H : Grid) (P : Proper G) (Q : Proper H) (l : G .luma ≡ true) (m : 
       go true e h = absurd (false≢true (sym e))
       go false e h = chroma-bit-in (ssOf H (other d)) (passNo d) u c q (ss-le H Q (other d)) (pass-lt d) hu h hq
 
-  pub kinds-apart : (d e : Pass) (p q : Piece) (c k : ℕ) → c < classes G → k < classes H → ¬ (edgeBit G d p c ≡ edgeBit H e q k)
+  pub luma-chroma-apart : (d e : Pass) (p q : Piece) (c k : ℕ) → c < classes G → k < classes H → ¬ (edgeBit G d p c ≡ edgeBit H e q k)
   unfolding edgeBit
-  kinds-apart d e p q c k hc hk z =
+  luma-chroma-apart d e p q c k hc hk z =
       omega (
         arith,
         low d (p .0 % side G d) c (p .1 % side G (other d)) (unit-in G P d (p .0)) hc (place-in G P d (p .1)),
-        height e (q .0 % side H e) k (q .1 % side H (other e)) (unit-in H Q e (q .0)) hk (place-in H Q e (q .1)),
+        high e (q .0 % side H e) k (q .1 % side H (other e)) (unit-in H Q e (q .0)) hk (place-in H Q e (q .1)),
       )
+
+-- no class is set
+pub highest-none : (n : ℕ) (set : ℕ → Bool) → ((c : ℕ) → c < n → set c ≡ false) → highest n set ≡ none
+highest-none zero set h = refl
+highest-none (suc n) set h = rw (h n (omega arith)) (highest-none n set (λ c l. h c (omega arith)))
 
 -- one class is set: it is the highest
 pub highest-one : (n : ℕ) (set : ℕ → Bool) (m : ℕ) → ((c : ℕ) → c < n → set c ≡ eqb c m) → m < n → highest n set ≡ some m

@@ -1,8 +1,6 @@
 -- The bit of an edge, as the code finds it.
 --   Near            what is asked: a plane's subsampling, and a width and a unit of a frame
-use mathlib.Core.Bool.{Bool, cond}
 use Prim.Native.Nat.{ℕ, _≤_}
-use Rattle.plane.specs.Line.{Pass, columns, rows}
 
 pub record Near (ss-hor ss-ver w4 across along : ℕ) : Type 0 where
   pub hor-le : ss-hor ≤ 1

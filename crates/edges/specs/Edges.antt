@@ -1,9 +1,8 @@
 -- The edges of one plane of units, as the masks of a frame hold them.
---   Grid                     a plane of units: its kind, its subsampling, and the frame in luma units
+--   Grid                     a plane of units: luma or chroma, its subsampling, and the frame in luma units
 --   gridOf                   of these numbers
---   lumaGrid, chromaGrid     the two kinds; U and V share their masks
---   Proper                   a plane's subsampling goes with its kind
---   other, passNo            the other pass; a pass's number
+--   lumaGrid, chromaGrid     luma, and chroma: U and V share their masks
+--   Proper                   a subsampling is 0 or 1, and 0 in luma
 --   ssOf                     the subsampling of the direction across a pass: to the right in columns, down in rows
 --   unitsOf, side            the units of the frame in that direction, and those of a 128x128 record
 --   half                     the units along the pass that a half of a mask's bits holds

@@ -23,7 +23,7 @@ use Rattle.gap.proofs.Masks.{along}
 use Rattle.gap.proofs.Shapes.{row-lines}
 use Rattle.filter.specs.declared.Component.{Component}
 use Rattle.filter.specs.Filter.{gridOf, areaOf}
-use Rattle.filter.specs.Lines.{leftOf, topOf, acrossOf, unitIn, maskAt, startHalf, halvesOf, halvesAt, classAt, wordOf, alongStep, backStep, lineIn, Counted}
+use Rattle.filter.specs.Lines.{leftOf, topOf, acrossOf, unitIn, maskAt, startHalf, halvesOf, halvesAt, classAt, lineMask, alongStep, backStep, lineIn, Counted}
 
 pub left-le : (ss-hor rec : ℕ) → ss-hor ≤ 1 → rec ≤ 128 → rec * (32 / 2 ^ ss-hor) ≤ 4096
 left-le ss-hor rec h l = prod-le rec (32 / 2 ^ ss-hor) 128 32 l (side-le ss-hor h)
@@ -142,7 +142,7 @@ module _ (c : Component) (d : Pass) (k rec a : ℕ) where
 
   module _ (ms : List ℕ) (x y m first n h : ℕ) (ex : x ≡ leftOf c d rec a) (ey : y ≡ topOf c d k a) (em : m ≡ maskAt c d k rec a)
       (ef : first ≡ startHalf c d k) (en : n ≡ halvesOf c d) (eh : h ≡ half (gridOf c) d) where
-    class-is : (class w : ℕ) → w ≡ classAt ms (eqb (c .plane) 0) m first n h class → w ≡ wordOf c ms d k rec a class
+    class-is : (class w : ℕ) → w ≡ classAt ms (eqb (c .plane) 0) m first n h class → w ≡ lineMask c ms d k rec a class
     class-is class w e = e ∙ (λ j. classAt ms (eqb (c .plane) 0) (em j) (ef j) (en j) (eh j) class)
 
     pub line-make : (q m0 m1 m2 classes at : ℕ) → q ≡ 4 * (y * c .stride + x) → m0 ≡ classAt ms (eqb (c .plane) 0) m first n h 0

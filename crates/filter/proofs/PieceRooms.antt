@@ -19,7 +19,7 @@ use Rattle.plane.proofs.Pieces.{fair-luma, fair-chroma}
 use Rattle.units.specs.Frame.{records}
 use Rattle.units.specs.Memory.{levelAt}
 use Rattle.units.specs.Units.{chromaUnit}
-use Rattle.units.proofs.Places.{chroma-units-le, level-in}
+use Rattle.units.proofs.Places.{chroma-units-le, level-in, pass-lt}
 use Rattle.edges.specs.Edges.{unitsOf, side, edge}
 use Rattle.line.specs.Width.{reads}
 use Rattle.units.specs.Masks.{recordRow}
@@ -159,12 +159,8 @@ module _ (c : Component) (t : Tables) (k len u w : ℕ) (s : Stored c t len) whe
   area-lt : (d : Pass) → areaOf c d < 4
   area-lt d = go (eqb (c .plane) 0) (pass-lt d)
     where
-      pass-lt : (d : Pass) → passNo d < 4
-      pass-lt columns = omega arith
-      pass-lt rows = omega arith
-
-      go : (b : Bool) → passNo d < 4 → cond b (passNo d) (suc (c .plane)) < 4
-      go true h = h
+      go : (b : Bool) → passNo d < 2 → cond b (passNo d) (suc (c .plane)) < 4
+      go true h = omega arith
       go false h = omega (arith, s .plane)
 
   pub level-there : (d : Pass) → u < unitsOf (gridOf c) d → w < unitsOf (gridOf c) (other d)

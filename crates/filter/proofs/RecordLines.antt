@@ -4,7 +4,7 @@ use mathlib.Core.Bool.{cond}
 use mathlib.Core.List.{List}
 use mathlib.Core.Logic.{by-cases}
 use mathlib.Core.Option.{none}
-use Prim.Native.Nat.{ℕ, zero, suc, _+_, _*_, _^_, _≤_, _<_}
+use Prim.Native.Nat.{ℕ, _+_, _*_, _^_, _≤_, _<_}
 use native.Mathlib.Decide.{decLt, ℕ-discrete}
 use native.Mathlib.Nat.{add-mul, zero-mul, mul-le-mul-right}
 use native.Mathlib.Omega.{arith}
@@ -15,7 +15,7 @@ use Rattle.loops.specs.Run.{upTo}
 use Rattle.loops.proofs.Runs.{upTo-idle}
 use Rattle.plane.specs.Line.{Pass, columns, rows, other}
 use Rattle.plane.specs.Plane.{Plane, inner, class, act}
-use Rattle.plane.proofs.Pieces.{idle}
+use Rattle.plane.proofs.Pieces.{idle, inner-none}
 use Rattle.units.specs.Frame.{records}
 use Rattle.units.specs.Units.{chromaUnit}
 use Rattle.units.specs.Memory.{levelAt}
@@ -101,10 +101,6 @@ module _ (c : Component) (t : Tables) (d : Pass) (k rec a : ℕ) (l : List ℕ) 
   unfolding edge
   past-end h =
       no-edges (λ v. ap (inner (unitAt c d k rec a)) (rw (le-ltb (unitAt c d k rec a) (unitsOf (gridOf c) d) h) refl) ∙ inner-none (unitAt c d k rec a))
-    where
-      inner-none : (u : ℕ) → inner u none ≡ none
-      inner-none zero = refl
-      inner-none (suc u) = refl
 
 -- ---- the lines of a record
 

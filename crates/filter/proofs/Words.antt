@@ -3,7 +3,7 @@ use mathlib.Core.Path.{_≡_, refl, sym, ap, ap₂, _∙_}
 use mathlib.Core.Bool.{Bool, true, false, cond, _||_}
 use mathlib.Core.Logic.{_⊎_, inl, inr, _≢_, by-cases}
 use mathlib.Core.Option.{Option, some, none}
-use Prim.Native.Nat.{ℕ, zero, suc, _+_, _-_, _*_, _/_, _%_, _^_, _≤_, _<_}
+use Prim.Native.Nat.{ℕ, _+_, _-_, _*_, _/_, _%_, _^_, _≤_, _<_}
 use native.Mathlib.Decide.{decLt, ℕ-discrete}
 use native.Mathlib.Nat.{div-lt-iff-lt-mul, div-eq-of-lt, mod-eq-of-lt}
 use native.Mathlib.Omega.{arith}
@@ -21,6 +21,7 @@ use Rattle.units.specs.Frame.{records}
 use Rattle.units.specs.Masks.{unitWords, passStart, recordRow, twoHalves}
 use Rattle.units.proofs.Places.{word-at}
 use Rattle.edges.specs.Edges.{Grid, unitsOf, half, recordAt, classes, wordIn, edgeBit, highest, edge}
+use Rattle.edges.proofs.Bits.{highest-none}
 use Rattle.gap.specs.Numbers.{halfBit}
 use Rattle.gap.proofs.Masks.{along, edge-bit}
 use Rattle.walk.specs.declared.UnitLine.{UnitLine}
@@ -29,20 +30,16 @@ use Rattle.walk.specs.Walk as walk
 use Rattle.filter.specs.declared.Component.{Component}
 use Rattle.filter.specs.Filter.{Tables, gridOf}
 use Rattle.filter.specs.Ready.{Stored, Fit}
-use Rattle.filter.specs.Lines.{unitAt, unitIn, maskAt, startHalf, halvesOf, halvesAt, classAt, wordOf, lineIn, Inner}
+use Rattle.filter.specs.Lines.{unitAt, unitIn, maskAt, startHalf, halvesOf, halvesAt, classAt, lineMask, lineIn, Inner}
 use Rattle.filter.proofs.UnitPlaces.{recAlong, firstPlace, places, Spot, spot}
 
 -- a half that has no bit from h on
 over : (m h : ℕ) → m < 2 ^ 16 → ((b : ℕ) → h ≤ b → b < 16 → hasBit m b ≡ false) → (v : ℕ) → h ≤ v → hasBit m v ≡ false
-over m h l f v rec =
-    by-cases (decLt v 16) (λ x. f v rec x)
+over m h l f v g =
+    by-cases (decLt v 16) (λ x. f v g x)
     (λ x. let e : 16 ≤ v = omega arith in hasBit-0 m v (bit-small m v (omega (arith, pow-mono {i = 16} {j = v} e))))
 
 -- ---- the highest of three classes
-
-none-set : (n : ℕ) (set : ℕ → Bool) → ((c : ℕ) → c < n → set c ≡ false) → highest n set ≡ none
-none-set zero set f = refl
-none-set (suc n) set f = rw (f n (omega arith)) (none-set n set (λ c l. f c (omega arith)))
 
 three : (luma : Bool) (set : ℕ → Bool)
     → highest (cond luma 3 2) set ≡ cond (cond luma (set 2) false) (some 2) (cond (set 1) (some 1) (cond (set 0) (some 0) none))
@@ -231,7 +228,7 @@ module _ (c : Component) (t : Tables) (d : Pass) (k rec a len : ℕ) (s : Stored
     bit-lt = omega (arith, along G (s .proper) d .bit-of v, along G (s .proper) d .most)
 
     set-bit : (class : ℕ) → class < classes G
-        → hasBit (wordOf c (t .masks) d k rec a class) v ≡ isSet (t .masks) (edgeBit G d (u, firstPlace c d k rec + v) class)
+        → hasBit (lineMask c (t .masks) d k rec a class) v ≡ isSet (t .masks) (edgeBit G d (u, firstPlace c d k rec + v) class)
     unfolding classAt
     set-bit class lc =
         rw (lt-ltb class (classes G) lc)
@@ -251,10 +248,10 @@ module _ (c : Component) (t : Tables) (d : Pass) (k rec a len : ℕ) (s : Stored
         by-cases (decLt (firstPlace c d k rec + v) (unitsOf G (other d)))
         (λ x. rw (lt-ltb u (unitsOf G d) (sp .inside), lt-ltb (firstPlace c d k rec + v) (unitsOf G (other d)) x) refl)
         (λ x. rw (lt-ltb u (unitsOf G d) (sp .inside), le-ltb (firstPlace c d k rec + v) (unitsOf G (other d)) (omega arith))
-        (sym (none-set (classes G) _ (past-frame (omega arith)))))
+        (sym (highest-none (classes G) _ (past-frame (omega arith)))))
 
     third : (z : Bool) → eqb (c .plane) 0 ≡ z
-        → cond z (isSet (t .masks) (edgeBit G d (u, firstPlace c d k rec + v) 2)) false ≡ hasBit (wordOf c (t .masks) d k rec a 2) v
+        → cond z (isSet (t .masks) (edgeBit G d (u, firstPlace c d k rec + v) 2)) false ≡ hasBit (lineMask c (t .masks) d k rec a 2) v
     unfolding classAt
     third true e = sym (set-bit 2 (rw e (omega arith)))
     third false e = rw e (sym (hasBit-nil v))
@@ -269,7 +266,7 @@ module _ (c : Component) (t : Tables) (d : Pass) (k rec a len : ℕ) (s : Stored
         ∙ pick (hasBit (U .m0) v) (hasBit (U .m1) v) (hasBit (U .m2) v)
         ∙ ap (λ (b : Bool). cond b (some (walk.highest (U .m1) (U .m2) v)) none) (sym (set-in v))
 
-  over-class : (class v : ℕ) → places c d ≤ v → hasBit (wordOf c (t .masks) d k rec a class) v ≡ false
+  over-class : (class v : ℕ) → places c d ≤ v → hasBit (lineMask c (t .masks) d k rec a class) v ≡ false
   unfolding classAt
   over-class class v l =
       by-cases (decLt class (classes G)) (λ x. rw (lt-ltb class (classes G) x) (word-over class x v (omega (arith, sp .many))))

@@ -24,7 +24,7 @@ use Rattle.units.specs.Units.{chromaUnit}
 use Rattle.edges.specs.Edges.{Grid, side, edge}
 use Rattle.line.specs.Rule.{rule}
 use Rattle.view.specs.Level.{levelUsed}
-use Rattle.walk.specs.Walk.{thresholds, lenOf}
+use Rattle.walk.specs.Walk.{thresholds, widthOf}
 use Rattle.filter.specs.declared.Component.{Component}
 
 pub record Tables : Type 0 where
@@ -57,7 +57,7 @@ abbrev pub changeAt : Tables → ℕ → ℕ → List ℕ → Change
 changeAt t len lvl l = cond (eqb lvl 0) (record { side = 0; samples = [] }) (rule len (thresholds (t .depth) (t .e) (t .i) lvl) .rule l)
 
 abbrev pub ruleOf : Component → Tables → Pass → ℕ → Piece → List ℕ → Change
-ruleOf c t d cls p = changeAt t (lenOf (eqb (c .plane) 0) cls) (levelOf c t d p)
+ruleOf c t d cls p = changeAt t (widthOf (c .plane) cls) (levelOf c t d p)
 
 abbrev pub planeOf : Component → Tables → Plane
 planeOf c t =

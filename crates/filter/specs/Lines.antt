@@ -8,7 +8,7 @@
 --   startHalf, halvesOf     the halves of the row in the record: the first of them, and how many
 --   halvesAt                the word of n halves, h units each, from the first one on; the masks of a class start at `at`
 --   classAt                 that of a class; there is no class 2 in chroma
---   wordOf                  that of the line
+--   lineMask                the mask of a class of the line
 --   alongStep, backStep     from a level byte to the next, and back to the unit before the edge
 --   lineIn                  the line, as `walk` takes it
 --   recordSweep             what is done along the lines of a record
@@ -79,8 +79,8 @@ halvesAt ms at first n h = cond (eqb n 2) (twoHalves (getD ms at 0) (getD ms (at
 unfoldable pub classAt : List ℕ → Bool → ℕ → ℕ → ℕ → ℕ → ℕ → ℕ
 classAt ms luma at first n h class = cond (ltb class (cond luma 3 2)) (halvesAt ms (at + 2 * class) first n h) 0
 
-abbrev pub wordOf : Component → List ℕ → Pass → ℕ → ℕ → ℕ → ℕ → ℕ
-wordOf c ms d k rec a class = classAt ms (eqb (c .plane) 0) (maskAt c d k rec a) (startHalf c d k) (halvesOf c d) (half (gridOf c) d) class
+abbrev pub lineMask : Component → List ℕ → Pass → ℕ → ℕ → ℕ → ℕ → ℕ
+lineMask c ms d k rec a class = classAt ms (eqb (c .plane) 0) (maskAt c d k rec a) (startHalf c d k) (halvesOf c d) (half (gridOf c) d) class
 
 abbrev pub alongStep : Component → Pass → ℕ
 alongStep c columns = 4 * c .«level_stride»
@@ -96,9 +96,9 @@ lineIn c ms d k rec a =
       q = 4 * (topOf c d k a * c .stride + leftOf c d rec a);
       «line_step» = lineStep d (c .stride);
       «sample_step» = sampleStep d (c .stride);
-      m0 = wordOf c ms d k rec a 0;
-      m1 = wordOf c ms d k rec a 1;
-      m2 = wordOf c ms d k rec a 2;
+      m0 = lineMask c ms d k rec a 0;
+      m1 = lineMask c ms d k rec a 1;
+      m2 = lineMask c ms d k rec a 2;
       classes = classes (gridOf c);
       at = levelAt (c .«level_stride») (leftOf c d rec a) (topOf c d k a) (areaOf c d);
       along = alongStep c d;

@@ -39,10 +39,10 @@ use Rattle.frames.proofs.Sweeps.{shown-case}
 
 record Alike (m : ℕ) (s t : List ℕ) : Type 0 where
   long : length s ≡ length t
-  height : (i : ℕ) → ltb (m - 1) (getD s i 0) ≡ ltb (m - 1) (getD t i 0)
+  too-high : (i : ℕ) → ltb (m - 1) (getD s i 0) ≡ ltb (m - 1) (getD t i 0)
 
 same : (m : ℕ) (s : List ℕ) → Alike m s s
-same m s = record { long = refl; height = λ i. refl }
+same m s = record { long = refl; too-high = λ i. refl }
 
 plane-alike : (c : Call) (n : ℕ) (s t : List ℕ) → Alike (2 ^ c .depth) s t → planeBad c n s ≡ planeBad c n t
 unfolding planeBad samplesHigh
@@ -51,7 +51,7 @@ plane-alike c n s t a =
     not (planeOk (a .long q) (strideOf c n) (stored (c .width .0) (ss-hor c n)) (stored (c .height .0) (ss-ver c n)))
     || (inside c
     && someFrom (4 * (c .row * chromaUnit (ss-ver c n) (sb4 c)) - 8 * passNo (callPass c)) (4 * ((c .row + 1) * chromaUnit (ss-ver c n) (sb4 c)))
-    (λ y. anyBelow (stored (c .width .0) (ss-hor c n)) (λ x. a .height (y * strideOf c n + x) q)))
+    (λ y. anyBelow (stored (c .width .0) (ss-hor c n)) (λ x. a .too-high (y * strideOf c n + x) q)))
 
 record Alike3 (m : ℕ) (s t : Three (List ℕ)) : Type 0 where
   luma : Alike m (s .luma) (t .luma)
@@ -111,7 +111,7 @@ module _ (c : Component) (t : Tables) (d : Pass) (k : ℕ) (s : List ℕ) (o : D
   sweep-alike =
       record {
         long = filter.promises .keeps (planeOf c t) d k s;
-        height = λ i. by-cases (dec-within (planeOf c t) 8 d k i) (looked i) (λ n. ap (λ (x : ℕ). ltb (2 ^ t .depth - 1) x) (not-looked i n));
+        too-high = λ i. by-cases (dec-within (planeOf c t) 8 d k i) (looked i) (λ n. ap (λ (x : ℕ). ltb (2 ^ t .depth - 1) x) (not-looked i n));
       }
 
 -- ---- a call

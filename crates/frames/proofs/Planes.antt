@@ -4,7 +4,7 @@ use mathlib.Core.Path.{_≡_, refl, sym, ap, _∙_, subst}
 use mathlib.Core.Bool.{Bool, true, false}
 use mathlib.Core.List.{List, [], _∷_}
 use mathlib.Core.Logic.{_≢_, ⊎-elim}
-use mathlib.Core.Option.{Option, some, none}
+use mathlib.Core.Option.{some, none}
 use Prim.Native.Nat.{ℕ, suc, _*_, _/_, _<_}
 use native.Mathlib.Nat.{div-lt-iff-lt-mul, mul-le-mul-right}
 use native.Mathlib.Omega.{arith}
@@ -15,7 +15,7 @@ use Rattle.loops.proofs.Locals.{commute}
 use Rattle.plane.specs.Line.{Pass, columns, rows, Piece}
 use Rattle.plane.specs.Plane.{Plane, class, IsPiece, act, colsOf, rowsOf, rasterOf, down, Kept, InRow}
 use Rattle.plane.specs.Three.{Three}
-use Rattle.plane.proofs.Pieces.{Fair, inner-some, idle, local-of, reads-piece, local, apart, past, ahead}
+use Rattle.plane.proofs.Pieces.{Fair, inner-some, idle, local-of, reads-piece, local, apart, past, ahead, not-both}
 use Rattle.units.specs.Frame.{superblocks}
 use Rattle.order.specs.Demand3.{Order, Demand3}
 use Rattle.order.proofs.Parts.{divided, cut}
@@ -93,10 +93,7 @@ module _ (P : Plane) (no-edge : (d : Pass) (p : Piece) → class P d p ≡ none)
   turns-stay = upTo-idle _ 0 (P .sbs) (λ k _ t. rows-stay k (colsOf P k t) ∙ cols-stay k t) (omega arith)
 
   no-piece : (d : Pass) (p : Piece) → IsPiece P d p → ⊥
-  no-piece d p e = differ (sym (no-edge d p) ∙ e .is)
-    where
-      differ : {c : ℕ} → _≡_ {A = Option ℕ} none (some c) → ⊥
-      differ e = let z : _≡_ {A = ℕ} 0 1 = cc in omega arith
+  no-piece d p e = not-both (sym (no-edge d p) ∙ e .is)
 
   demand-none : Demand3 P
   demand-none =

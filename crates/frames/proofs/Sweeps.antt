@@ -7,8 +7,8 @@ use Prim.Native.Nat.{ℕ, zero, suc, _+_, _<_}
 use native.Mathlib.Omega.{arith}
 use Rattle.loops.specs.Run.{upTo}
 use Rattle.plane.specs.Line.{Pass, columns, rows, Piece}
-use Rattle.plane.specs.Plane.{Plane, inner, class, act, InRow}
-use Rattle.plane.proofs.Pieces.{idle}
+use Rattle.plane.specs.Plane.{Plane, class, act, InRow}
+use Rattle.plane.proofs.Pieces.{idle, inner-none}
 use Rattle.filter.specs.Filter.{firstAcross, firstAlong, across, along, lineOf, sweepOf}
 use Rattle.apply.specs.Apply.{shown}
 
@@ -38,11 +38,7 @@ pub sweep-stays : (P : Plane) → ((d : Pass) (p : Piece) → class P d p ≡ no
 sweep-stays P n d k s = sweep-both P k (λ l _. l ≡ s) d (λ p _ l _ e. idle P d p (n d p) l ∙ e) s s refl
 
 pub shown-none : (P : Plane) (d : Pass) (p : Piece) → class (shown false P) d p ≡ none
-shown-none P d p = go (p .0)
-  where
-    go : (u : ℕ) → inner u none ≡ none
-    go zero = refl
-    go (suc u) = refl
+shown-none P d p = inner-none (p .0)
 
 -- a plane that is on, or not
 pub shown-case : (P : Plane) (d : Pass) (k : ℕ) (Q : Plane → (List ℕ → List ℕ) → Type 0) (on : Bool) → (on ≡ true → Q P (sweepOf P d k))

@@ -23,9 +23,9 @@ use Rattle.gap.proofs.Shapes.{Halves}
 -- ---- on Bools
 
 pub iff : (a b : Bool) → (a ≡ true → b ≡ true) → (b ≡ true → a ≡ true) → a ≡ b
-iff true b f rec = sym (f refl)
-iff false true f rec = rec refl
-iff false false f rec = refl
+iff true b f g = sym (f refl)
+iff false true f g = g refl
+iff false false f g = refl
 
 -- ---- a bit of a line
 
@@ -60,7 +60,7 @@ module _ (h n : ℕ) (h1 : h ≤ 16) (h2 : n ≤ 2 * h) where
   low-place q l = let e : q / 16 ≡ 0 = omega arith in ap (λ (k : ℕ). k * h + q % 16) e ∙ omega (arith, zero-mul h)
 
   high-place : (q : ℕ) → 16 ≤ q → q < 32 → q / 16 * h + q % 16 ≡ h + (q - 16)
-  high-place q rec l = let e : q / 16 ≡ 1 = omega arith in ap (λ (k : ℕ). k * h + q % 16) e ∙ omega (arith, one-mul h)
+  high-place q g l = let e : q / 16 ≡ 1 = omega arith in ap (λ (k : ℕ). k * h + q % 16) e ∙ omega (arith, one-mul h)
 
   low-bit : (q : ℕ) → q < 16 → hasBit (2 ^ min n h - 1) q ≡ lineBit h n q
   low-bit q l =
@@ -70,8 +70,8 @@ module _ (h n : ℕ) (h1 : h ≤ 16) (h2 : n ≤ 2 * h) where
       (λ t. let x = line-out h n q t in lt-ltb q (min n h) (omega arith))
 
   high-bit : (q : ℕ) → 16 ≤ q → q < 32 → hasBit (2 ^ (n - h) - 1) (q - 16) ≡ lineBit h n q
-  high-bit q rec l =
-      let p = high-place q rec l in
+  high-bit q g l =
+      let p = high-place q g l in
       has-first (n - h) (q - 16)
       ∙ iff (ltb (q - 16) (n - h)) (lineBit h n q) (λ t. let x = ltb-true (q - 16) (n - h) t in line-in h n q (omega arith) (omega arith))
       (λ t. let x = line-out h n q t in lt-ltb (q - 16) (n - h) (omega arith))

@@ -13,32 +13,25 @@ use Rattle.bits.specs.Bit.{hasBit}
 use Rattle.bits.specs.Mark.{isSet}
 use Rattle.bits.proofs.Bits.{hasBit-nil}
 use Rattle.bits.proofs.Words.{none-from, half-low, half-high}
-use Rattle.plane.specs.Line.{Pass, columns, rows, other, passNo}
+use Rattle.plane.specs.Line.{Pass, other, passNo}
 use Rattle.units.specs.Masks.{unitWords, twoHalves, lumaWord, chromaWord, lumaBit, chromaBit, halfUnits}
 use Rattle.edges.specs.Edges.{Grid, ssOf, unitsOf, side, half, recordAt, wordIn, bitIn, edgeBit, Proper}
+use Rattle.edges.proofs.Bits.{ss-le, luma-ss}
 use Rattle.gap.specs.Numbers.{halfBit, fits}
 use Rattle.gap.specs.Track.{wordAt, classWord}
 use Rattle.loops.proofs.Bools.{both-true}
 use Rattle.gap.proofs.Shapes.{Halves, halves}
 
 module _ (G : Grid) (p : Proper G) where
-  pub ss-le : (d : Pass) → ssOf G d ≤ 1
-  ss-le columns = p .ss-hor-le
-  ss-le rows = p .ss-ver-le
-
-  luma-ss : (d : Pass) → G .luma ≡ true → ssOf G d ≡ 0
-  luma-ss columns = p .luma-x
-  luma-ss rows = p .luma-y
-
   -- the halves along a pass
   pub along : (d : Pass) → Halves (half G d) (side G (other d))
-  along d = halves (ssOf G (other d)) (ss-le (other d))
+  along d = halves (ssOf G (other d)) (ss-le G p (other d))
 
   -- ---- an edge is bit b of half j
 
   bit-in : (d : Pass) (unit c place : ℕ) → bitIn G d unit c place ≡ 16 * wordIn G d unit c (place / half G d) + place % half G d
   unfolding lumaBit chromaBit
-  bit-in d unit c place = go (G .luma) (λ e. ap halfUnits (sym (luma-ss (other d) e)))
+  bit-in d unit c place = go (G .luma) (λ e. ap halfUnits (sym (luma-ss G p (other d) e)))
     where
       go : (b : Bool) → (b ≡ true → 16 ≡ half G d)
           → cond b (lumaBit (passNo d) unit c place) (chromaBit (ssOf G (other d)) (passNo d) unit c place)
@@ -61,7 +54,7 @@ module _ (G : Grid) (p : Proper G) where
 module _ (ms : List ℕ) (small : (j : ℕ) → getD ms j 0 < 65536) (halves : ℕ) (some : 0 < halves) (two : halves ≤ 2) where
   word-bit : (i q : ℕ) → q < 32 → hasBit (wordAt ms halves i) q ≡ (ltb (q / 16) halves && isSet ms (16 * i + q))
   unfolding wordAt isSet
-  word-bit i q l = by-cases (decLt q 16) low height
+  word-bit i q l = by-cases (decLt q 16) low high
     where
       hi : ℕ
       hi = cond (eqb halves 2) (getD ms (i + 1) 0) 0
@@ -80,8 +73,8 @@ module _ (ms : List ℕ) (small : (j : ℕ) → getD ms j 0 < 65536) (halves : �
           rw (eq-eqb halves 2 e, lt-ltb (q / 16) halves (omega arith)) (λ t. hasBit (getD ms (d t) 0) (m t))
       up p (no e) = rw (ne-eqb halves 2 e, le-ltb (q / 16) halves (omega arith)) (hasBit-nil (q - 16))
 
-      height : ¬ (q < 16) → hasBit (twoHalves (getD ms i 0) hi 16) q ≡ (ltb (q / 16) halves && isSet ms (16 * i + q))
-      height p =
+      high : ¬ (q < 16) → hasBit (twoHalves (getD ms i 0) hi 16) q ≡ (ltb (q / 16) halves && isSet ms (16 * i + q))
+      high p =
           let e : q ≡ 16 + (q - 16) = omega arith in
           ap (hasBit (twoHalves (getD ms i 0) hi 16)) e
           ∙ half-high (getD ms i 0) hi 16 (q - 16) (none-from (getD ms i 0) 16 (q - 16) (small i))

@@ -137,7 +137,7 @@ module _ (edge : ℕ → Option ℕ) (end : ℕ) where
           left2 = λ t. prev-off (prev b) u (λ v e. prev-off b v (λ w f. low2 u w (omega arith) (omega arith) t));
           left3 = λ t.
               prev-off (prev (prev b)) u
-              (λ v e. prev-off (prev b) v (λ w f. prev-off b w (λ x rec. low2 u x (omega arith) (omega arith) t)));
+              (λ v e. prev-off (prev b) v (λ w f. prev-off b w (λ x g. low2 u x (omega arith) (omega arith) t)));
           right1 = λ t. let x = prev-on m u t in top1 u (x .0) (x .1) (x .2);
           right2 = λ t.
               let x = prev-on (prev m) u t in
@@ -192,12 +192,12 @@ module _ (edge : ℕ → Option ℕ) (end : ℕ) where
       right-three t p d = below 2 (edge y) c (at y (omega (arith, inside y c p)) .right3 (ap (prev (prev (prev m))) d ∙ mark-true x t)) p
 
       allowed : x < y → (y ≡ suc x → c < 1) → (y ≡ suc (suc x) → c < 2) → (y ≡ suc (suc (suc x)) → c < 2) → Allowed (y - x) c
-      allowed l f rec h =
+      allowed l f g h =
           record {
             one = λ d. omega (arith, f (omega arith));
             few = λ d.
                 by-cases (ℕ-discrete y (suc x)) (λ p. omega (arith, f p))
-                (λ n. by-cases (ℕ-discrete y (suc (suc x))) (λ p. omega (arith, rec p)) (λ k. omega (arith, h (omega arith))));
+                (λ n. by-cases (ℕ-discrete y (suc (suc x))) (λ p. omega (arith, g p)) (λ k. omega (arith, h (omega arith))));
           }
 
     calm-close : Close edge Nowhere end
@@ -211,4 +211,4 @@ pub line-keeps : (edge : ℕ → Option ℕ) (end : ℕ) → ((u c : ℕ) → ed
 line-keeps edge end inside e = close-gap edge Nowhere end (calm-close edge end inside e)
 
 pub line-breaks : (edge : ℕ → Option ℕ) (end : ℕ) → lineBroken edge end ≡ true → ¬ GapRule edge Nowhere end
-line-breaks edge end e rec = false≢true (sym (close-calm edge end (gap-close edge Nowhere end (λ u. no (λ x. x)) rec)) ∙ e)
+line-breaks edge end e g = false≢true (sym (close-calm edge end (gap-close edge Nowhere end (λ u. no (λ x. x)) g)) ∙ e)

@@ -1,4 +1,4 @@
--- The words of units where they are stored, by cases on the kind of plane.
+-- The words of units where they are stored, in luma and in chroma.
 use mathlib.Core.Path.{_≡_, refl, _∙_}
 use mathlib.Core.Bool.{Bool, true, false, cond}
 use mathlib.Core.List.{List}

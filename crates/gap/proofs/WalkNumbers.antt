@@ -31,18 +31,18 @@ use Rattle.gap.proofs.Masks.{along, edge-bit, fits-in, fits-out}
 use Rattle.gap.proofs.LineBits.{iff, line-in, line-out, line-lt, has-line, bitOf-half, bitOf-bit, bitOf-lt, any-lines, any-halves, any-first}
 use Rattle.gap.proofs.LinesAtOnce.{lineOf}
 
--- ---- the classes of a kind: three, or two
+-- ---- the classes of a plane: three, or two
 
 module _ (s : ℕ → Bool) where
   -- class c is set, and there is one
-  abbrev in-kind : Bool → ℕ → Bool
-  in-kind luma c = ltb c (cond luma 3 2) && s c
+  abbrev in-plane : Bool → ℕ → Bool
+  in-plane luma c = ltb c (cond luma 3 2) && s c
 
-  three-classes : (luma : Bool) → highest 3 (in-kind luma) ≡ highest (cond luma 3 2) s
+  three-classes : (luma : Bool) → highest 3 (in-plane luma) ≡ highest (cond luma 3 2) s
   three-classes true = refl
   three-classes false = refl
 
-  some-class : (luma : Bool) → (in-kind luma 0 || (in-kind luma 1 || in-kind luma 2)) ≡ anyBelow (cond luma 3 2) s
+  some-class : (luma : Bool) → (in-plane luma 0 || (in-plane luma 1 || in-plane luma 2)) ≡ anyBelow (cond luma 3 2) s
   unfolding anyBelow
   some-class true = sym (or-assoc (s 0) (s 1) (s 2))
   some-class false = ap (λ (x : Bool). s 0 || x) (or-false (s 1))
@@ -65,7 +65,7 @@ module _ (G : Grid) (p : Proper G) (ms : List ℕ) (d : Pass) (J halves : ℕ) (
   line-made q u lq =
       by-cases (decLt u n)
       (λ h.
-      let r : (c : ℕ) → c < 3 → hasBit (words u c) q ≡ in-kind (set u q) (G .luma) c = λ c lc. reads u c q (omega arith) lc lq in
+      let r : (c : ℕ) → c < 3 → hasBit (words u c) q ≡ in-plane (set u q) (G .luma) c = λ c lc. reads u c q (omega arith) lc lq in
       rw (lt-ltb u n h)
       ((λ t. cond (r 2 (omega arith) t) (some 2) (cond (r 1 (omega arith) t) (some 1) (cond (r 0 (omega arith) t) (some 0) none)))
       ∙ three-classes (set u q) (G .luma)))

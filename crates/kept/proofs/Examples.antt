@@ -1,13 +1,13 @@
 -- The example meets the hypotheses: its two blocks are legal and cover the tile in order, so the calls draw it in luma and in chroma; the rest is computed.
-use mathlib.Core.Bool.{Bool, false, cond, false≢true}
+use mathlib.Core.Bool.{Bool, cond, false≢true}
 use mathlib.Core.List.{List, List·Memᴰ·head, List·Memᴰ·tail}
 use mathlib.Core.Logic.{inl, by-cases}
 use mathlib.Core.Path.{_≡_, refl, ap, _∙_}
-use Prim.Native.Nat.{ℕ, zero, suc, _+_, _/_, _%_, _<_, _≤_}
+use Prim.Native.Nat.{ℕ, _+_, _/_, _%_, _<_, _≤_}
 use native.Mathlib.Decide.{decLt}
 use native.Mathlib.Omega.{arith}
 use lib.Dec.{ltb}
-use lib.ListN.{getD, replicate}
+use lib.ListN.{getD-replicate}
 use borrow.Author.Tests.{lt-ltb, le-ltb}
 use Rattle.bits.proofs.Marks.{none-set}
 use Rattle.loops.specs.Run.{All}
@@ -151,11 +151,6 @@ went = blocks.call _ _ _ between _ first (blocks.call _ _ _ after _ second (bloc
 
 -- ---- the tile
 
-same-at : (k n i : ℕ) → i < n → getD (replicate n k) i 0 ≡ k
-same-at k zero i h = absurd (omega arith)
-same-at k (suc n) zero h = refl
-same-at k (suc n) (suc i) h = same-at k n i (omega arith)
-
 luma-tallies : Tallies decoded 0 (lumaUnits (call 0 0 .block))
 luma-tallies =
     record {
@@ -185,8 +180,8 @@ luma-one =
     (r .blocks, record { tile = elim [ columns ↦ r .in-tile columns | rows ↦ r .in-tile rows ]; clear = λ d p c _ _ _. none-set 640 (edgeBit (lumaUnits (call 0 0 .block)) d p c) })
   where
     begins : (d : Pass) → Begins 2 (tileIn area 0 0 d) (contextIn d (lumaState clear))
-    begins columns j _ h = same-at 2 2 j h
-    begins rows j _ h = same-at 2 4 j h
+    begins columns j _ h = getD-replicate 2 j 2 0 h
+    begins rows j _ h = getD-replicate 4 j 2 0 h
 
 chroma-one : (l : List SeenBlock) × OneTile decoded 1 (chromaUnitsOf (call 0 0 .block)) l (chromaState clear) (chromaState after) 1
 chroma-one =
@@ -195,8 +190,8 @@ chroma-one =
     (r .blocks, record { tile = elim [ columns ↦ r .in-tile columns | rows ↦ r .in-tile rows ]; clear = λ d p c _ _ _. none-set 640 (edgeBit (chromaUnitsOf (call 0 0 .block)) d p c) })
   where
     begins : (d : Pass) → Begins 1 (tileIn area 1 1 d) (contextIn d (chromaState clear))
-    begins columns j _ h = same-at 1 1 j h
-    begins rows j _ h = same-at 1 2 j h
+    begins columns j _ h = getD-replicate 1 j 1 0 h
+    begins rows j _ h = getD-replicate 2 j 1 0 h
 
 -- ---- the frame
 
@@ -208,7 +203,10 @@ luma-recorded =
       units = refl;
       tallies = luma-tallies;
       whole = record { left = refl; top = refl; right = refl; bottom = refl };
-      begun = record { clear = λ d p c _ _ _. none-set 640 (edgeBit (lumaUnits (call 0 0 .block)) d p c); contexts = elim [ columns ↦ λ j h. same-at 2 2 j h | rows ↦ λ j h. same-at 2 4 j h ] };
+      begun = record {
+        clear = λ d p c _ _ _. none-set 640 (edgeBit (lumaUnits (call 0 0 .block)) d p c);
+        contexts = elim [ columns ↦ λ j h. getD-replicate 2 j 2 0 h | rows ↦ λ j h. getD-replicate 4 j 2 0 h ];
+      };
       long = record { above = omega arith; left = omega arith };
       calls = went;
       legal = luma-all;
@@ -222,7 +220,10 @@ chroma-recorded =
       units = refl;
       tallies = chroma-tallies;
       whole = record { left = refl; top = refl; right = refl; bottom = refl };
-      begun = record { clear = λ d p c _ _ _. none-set 640 (edgeBit (chromaUnitsOf (call 0 0 .block)) d p c); contexts = elim [ columns ↦ λ j h. same-at 1 1 j h | rows ↦ λ j h. same-at 1 2 j h ] };
+      begun = record {
+        clear = λ d p c _ _ _. none-set 640 (edgeBit (chromaUnitsOf (call 0 0 .block)) d p c);
+        contexts = elim [ columns ↦ λ j h. getD-replicate 1 j 1 0 h | rows ↦ λ j h. getD-replicate 2 j 1 0 h ];
+      };
       long = record { above = omega arith; left = omega arith };
       calls = went;
       legal = chroma-all;

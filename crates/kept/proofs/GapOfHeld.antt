@@ -1,7 +1,7 @@
 -- A plane whose masks hold the standard's edges of legal blocks keeps the gap rule over the whole frame, of which a call looks at parts and BoundariesKeep at the rest.
 use mathlib.Core.Bool.{Bool, true, false}
 use mathlib.Core.List.{List, []}
-use mathlib.Core.Option.{Option, some, none}
+use mathlib.Core.Option.{Option, some}
 use mathlib.Core.Path.{_≡_, refl, sym, ap, _∙_, subst}
 use Prim.Native.Nat.{ℕ, _*_, _/_, _%_, _^_, _≤_}
 use native.Mathlib.Omega.{arith}
@@ -11,6 +11,7 @@ use Rattle.plane.specs.Gap.{GapRule}
 use Rattle.plane.specs.Line.{Pass, columns, rows}
 use Rattle.plane.specs.Plane.{Plane, Boundary, end}
 use Rattle.plane.specs.Three.{Three}
+use Rattle.plane.proofs.Pieces.{not-both}
 use Rattle.units.specs.Units.{chromaUnit}
 use Rattle.edges.specs.Edges.{edge}
 use Rattle.gap.specs.Numbers.{gap}
@@ -74,10 +75,7 @@ module _ (f : Frame) (D : standard.Frame) (shaped : Shaped (f .head)) where
   -- a plane that is not filtered has no edge
   shown-keeps : (on : Bool) (P : Plane) → (on ≡ true → BoundariesKeep P) → BoundariesKeep (shown on P)
   shown-keeps true P h = record { keeps = h refl .keeps }
-  shown-keeps false P h = record { keeps = λ v k a c e m. absurd (differ e) }
-    where
-      differ : {c : ℕ} → _≡_ {A = Option ℕ} none (some c) → ⊥
-      differ e = let z : _≡_ {A = ℕ} 0 1 = cc in omega arith
+  shown-keeps false P h = record { keeps = λ v k a c e m. absurd (not-both e) }
 
   pub all-keep : AllHold f D → BoundariesKept f
   all-keep A =

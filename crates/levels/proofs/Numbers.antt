@@ -1,5 +1,4 @@
 -- The number of `levels`, exactly when: each test reflects its fact, and the facts are those of document 01 by their constructors.
-use mathlib.Core.Bool.{Bool, true, false}
 use mathlib.Core.List.{List, [], _∷_}
 use mathlib.Core.Logic.{_⊎_, inl, inr, ⊎-elim, by-cases}
 use mathlib.Core.Path.{_≡_, refl, subst}
@@ -10,7 +9,7 @@ use lib.Dec.{ltb}
 use lib.IntN.{ℤ}
 use Rattle.loops.specs.Any.{anyBelow, Below}
 use Rattle.loops.specs.Exactly.{Exactly, Reflects, Row, row}
-use Rattle.loops.proofs.Reflected.{exactly-then, reflects-ltb, reflects-eqb, reflects-as, reflects-not, reflects-and, reflects-or, reflects-any}
+use Rattle.loops.proofs.Reflected.{exactly-then, reflects-ltb, reflects-eqb, reflects-as, reflects-not, reflects-and, reflects-or, reflects-any, settled}
 use Rattle.loops.proofs.Numbers.{gives, gives-0}
 use Rattle.deltas.specs.Deltas.{delta, outside, Outside}
 use Rattle.deltas.proofs.Range.{reflects-outside}
@@ -18,14 +17,6 @@ use Rattle.levels.specs.Levels.{LevelsIn, baseAt, outOfRange, levelsNumb
 use Rattle.units.specs.Layout.{Layout}
 use Rattle.units.proofs.Tests.{reflects-layout}
 use Rattle.levels.specs.Promises.{LevelFault, base-above-63, ref-outside, mode-outside, lf-outside, seg-outside, chroma-at-400}
-
--- what a test can tell is so where it is not refuted
-settled : {b : Bool} {P : Type 0} → Reflects b P → ¬ (¬ P) → P
-settled {b} r n = go b r n
-  where
-    go : {P : Type 0} (b : Bool) → Reflects b P → ¬ (¬ P) → P
-    go true r n = r .yes refl
-    go false r n = absurd (n (r .no refl))
 
 module _ (layout : ℕ) (x : LevelsIn) where
   abbrev Faults : Type 0

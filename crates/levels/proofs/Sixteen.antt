@@ -69,7 +69,7 @@ module _ (x : LevelsIn) (c d f : ℕ) (ed : subℕ d 128 ≡ lfDelta x (c % 4)) 
     chroma-area h p =
         p ∙ ap (λ (g : ℕ → ℕ). stores g a 16 l) (fun-ext (λ j. rw (lt-ltb 1 (c % 4) (omega arith), sixteen j) refl))
 
--- ---- kinds one after another
+-- ---- areas one after another
 
 module _ (x : LevelsIn) where
   area-at : lumaOff (x .base) ≡ false → (c j : ℕ) → j < 16 → areaLevel x (c / 4) (c % 4) (j / 2) (j % 2) ≡ byteAt x (16 * c + j)

@@ -1,6 +1,6 @@
 -- Lines are taken off a part of a script one after another: what is left goes on from what is kept as the whole did, whatever comes after it.
 --   Taking     the loop's invariant: `e` is the end of the line at `at`
-use mathlib.Core.List.{List, [], _∷_, _++_, append-nil}
+use mathlib.Core.List.{List, [], _++_, append-nil}
 use mathlib.Core.Path.{_≡_, refl, sym, ap, ap₂, subst, _∙_}
 use Prim.Native.Nat.{ℕ, _+_, _-_, _<_, _≤_}
 use native.Mathlib.Omega.{arith}

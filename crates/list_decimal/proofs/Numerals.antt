@@ -113,7 +113,7 @@ put-more l k at n e h g p q =
 
 -- ---- back
 
-value-append : (n : ℕ) (s t : List ℕ) → value n (s ++ t) ≡ value (value n s) t
+pub value-append : (n : ℕ) (s t : List ℕ) → value n (s ++ t) ≡ value (value n s) t
 value-append n [] t = refl
 value-append n (b ∷ s) t = value-append (n * 10 + (b - 48)) s t
 

@@ -32,10 +32,10 @@ fits-next i n b p q = rw add-one (omega (arith, pow-suc 256 i))
 
 -- ---- two words of one number
 
-height : (n i : ℕ) (s : List ℕ) → Bytes s → n < 256 ^ i → pack n s < 256 ^ (i + length s)
-height n i [] b h = rw add-zero h
-height n i (c ∷ s) b h =
-    subst (λ (k : ℕ). pack n (c ∷ s) < 256 ^ k) (omega arith) (height (n * 256 + c) (i + 1) s (λ j. b (suc j)) (fits-next i n c h (b 0)))
+high : (n i : ℕ) (s : List ℕ) → Bytes s → n < 256 ^ i → pack n s < 256 ^ (i + length s)
+high n i [] b h = rw add-zero h
+high n i (c ∷ s) b h =
+    subst (λ (k : ℕ). pack n (c ∷ s) < 256 ^ k) (omega arith) (high (n * 256 + c) (i + 1) s (λ j. b (suc j)) (fits-next i n c h (b 0)))
 
 low : (n i : ℕ) (s : List ℕ) → 256 ^ i ≤ n → 256 ^ (i + length s) ≤ pack n s
 low n i [] h = rw add-zero h
@@ -44,7 +44,7 @@ low n i (c ∷ s) h =
 
 longer : (s t : List ℕ) → Bytes s → length s < length t → pack 1 s ≡ pack 1 t → ⊥
 longer s t b h e =
-    let p = height 1 1 s b (omega arith) in
+    let p = high 1 1 s b (omega arith) in
     let q : 256 ^ length t ≤ pack 1 t = subst (λ (k : ℕ). 256 ^ k ≤ pack 1 t) (omega arith) (low 1 0 t (omega arith)) in
     let r : 256 ^ (1 + length s) ≤ 256 ^ length t = pow-le-pow-right {n = 256} (omega arith) {i = 1 + length s} {j = length t} (omega arith) in
     omega arith

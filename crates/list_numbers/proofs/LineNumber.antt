@@ -10,7 +10,7 @@ use lib.Dec.{ltb}
 use lib.IntN.{ℤ, pos}
 use lib.ListN.{replicate, length-replicate, getD-replicate, List·getD-eq-default}
 use Rattle.loops.specs.Exactly.{Reflects}
-use Rattle.loops.proofs.Reflected.{reflects-ltb, reflects-leb, reflects-eqb, reflects-not, reflects-and, reflects-or}
+use Rattle.loops.proofs.Reflected.{reflects-ltb, reflects-eqb, reflects-not, reflects-and, reflects-or}
 use Rattle.units.specs.Layout.{Layout, layoutOk}
 use Rattle.units.specs.Frame.{superblockOk}
 use Rattle.units.proofs.Tests.{reflects-layout, reflects-superblock}
@@ -30,6 +30,7 @@ use Rattle.record.specs.Record.{intraOf}
 use Rattle.list_script.specs.declared.ScriptLine.{ScriptLine}
 use Rattle.list_script.specs.declared.ScriptLine.the-variants.{Frame, Level, Block}
 use Rattle.list_steps.specs.Steps.{sideOk, depthOk, frameNumber, bases}
+use Rattle.list_steps.proofs.Outcomes.{reflects-side}
 use Rattle.list_numbers.specs.Faults.{DepthFault, ShapeFault, layout-other, width-outside, height-outside, superblock-other}
 use Rattle.list_numbers.specs.Faults.{LevelFault, columns-above, rows-above, u-above, v-above, u-at-400, v-at-400}
 use Rattle.list_numbers.specs.Faults.{Refuses, sharpness-above, level, depth-other, shape, pair-at-400, block}
@@ -65,9 +66,6 @@ module _ (f : ScriptLine) (width height layout depth superblock sharpness : ℕ)
   plain (height-outside n) p = n (p .1 .1 .0)
   plain (superblock-other n) p = n (p .1 .1 .1)
 
-  sides : (n : ℕ) → Reflects (sideOk n) ((1 ≤ n) × (n ≤ 256))
-  sides n = reflects-and (reflects-leb 1 n) (reflects-leb n 256)
-
   reflects-shape : Reflects (not (layoutOk layout && (sideOk width && (sideOk height && superblockOk superblock)))) (ShapeFault width height layout superblock)
   reflects-shape = go (layoutOk layout && (sideOk width && (sideOk height && superblockOk superblock))) refl
     where
@@ -75,11 +73,13 @@ module _ (f : ScriptLine) (width height layout depth superblock sharpness : ℕ)
       go true e =
           record {
             yes = λ z. absurd (false≢true z);
-            no = λ _ s. plain s (reflects-and (reflects-layout layout) (reflects-and (sides width) (reflects-and (sides height) (reflects-superblock superblock))) .yes e);
+            no = λ _ s. plain s (reflects-and (reflects-layout layout) (reflects-and (reflects-side width) (reflects-and (reflects-side height) (reflects-superblock superblock))) .yes e);
           }
       go false e =
           record {
-            yes = λ _. found (layoutOk layout) (sideOk width) (sideOk height) (superblockOk superblock) (reflects-layout layout) (sides width) (sides height) (reflects-superblock superblock) e;
+            yes = λ _.
+                found (layoutOk layout) (sideOk width) (sideOk height) (superblockOk superblock) (reflects-layout layout) (reflects-side width) (reflects-side height)
+                (reflects-superblock superblock) e;
             no = λ z. absurd (false≢true (sym z));
           }
 
@@ -177,10 +177,10 @@ module _ (width height layout depth superblock sharpness x y size tx chroma uvtx
   block-faults (pair-at-400 e c) = inl (refl, (e, c))
   block-faults (block f) = inr (refl, f)
 
-  module _ (l : Layout layout) (blockWidth : (1 ≤ width) × (width ≤ 256)) (blockHeight : (1 ≤ height) × (height ≤ 256)) where
+  module _ (l : Layout layout) (width-in : (1 ≤ width) × (width ≤ 256)) (height-in : (1 ≤ height) × (height ≤ 256)) where
     pair-only : blocks.ShapeFault b → (layout ≡ 400) × (¬ (chroma ≡ 0))
     pair-only (blocks.layout-other n) = absurd (n l)
-    pair-only (blocks.size-outside n) = absurd (n ((blockWidth .0, omega arith), (blockHeight .0, omega arith)))
+    pair-only (blocks.size-outside n) = absurd (n ((width-in .0, omega arith), (height-in .0, omega arith)))
     pair-only (blocks.pair-at-400 c e) = (e, reflects-not (reflects-eqb chroma 0) .yes c)
 
     only-pair : layout ≡ 400 → ¬ (chroma ≡ 0) → blocks.ShapeFault b

@@ -1,4 +1,4 @@
--- What a line does to the state and the level values, by its kind and the phase: the definition, rewritten by its tests.
+-- What a line does to the state and the level values, by what line it is and the phase: the definition, rewritten by its tests.
 use mathlib.Core.Bool.{Bool, true, false, cond}
 use mathlib.Core.List.{List}
 use mathlib.Core.Path.{_≡_, refl, sym, _∙_}

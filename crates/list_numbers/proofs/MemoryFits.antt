@@ -12,12 +12,12 @@ use lib.Seq.{getD-take, getD-drop}
 use Rattle.loops.proofs.Products.{prod-le}
 use Rattle.standard.specs.Sizes.{Tx_Wide, Tx_High}
 use Rattle.units.specs.Units.{chromaUnits}
-use Rattle.units.specs.Sizes.{chromaClass}
 use Rattle.block.specs.declared.Block.{Block}
 use Rattle.block.specs.Block.{w4, h4, ss-hor, ss-ver, bw4, bh4, cbw4, cbh4, seesLuma, seesChroma, Lent}
 use Rattle.block.specs.Faults.{ContextFault, fewer, above-range, ContextsFault, above, left, above-uv, left-uv, LengthFault, stride-below, levels-short, masks-short}
 use Rattle.mask_edges.specs.Recording.{Contexts}
 use Rattle.mask_edges.specs.Recording as recording
+use Rattle.mask_edges.proofs.BlockPasses.{chroma-low}
 use Rattle.record.specs.Recorded.{Stored, lumaBlock, chromaBlock}
 use Rattle.list_script.specs.declared.ScriptLine.{ScriptLine}
 use Rattle.list_script.specs.declared.ScriptLine.the-variants.{Frame, Level, Block as BlockLine, Form}
@@ -83,9 +83,6 @@ either-low : (b : Bool) (n m most : ℕ) → n ≤ most → m ≤ most → cond 
 either-low true n m most p q = p
 either-low false n m most p q = q
 
-chroma-low : (n : ℕ) → chromaClass n ≤ 1
-chroma-low n = either-low (ltb 1 n) 1 0 1 (omega arith) (omega arith)
-
 contexts-low : (most : ℕ) (B : recording.Block) (a l : List ℕ) → ((n : ℕ) → B .class n ≤ most) → ((i : ℕ) → B .above i ≤ most) → ((i : ℕ) → B .left i ≤ most)
     → Contexts B a l → ((i : ℕ) → getD a i 0 ≤ most) × ((i : ℕ) → getD l i 0 ≤ most)
 contexts-low most B a l f g h c = (
@@ -109,7 +106,7 @@ module _ (s : State) (x y size tx chroma uvtx : ℕ) (m n : Lent) (r : Room m) w
 
     uv-low : (t : Bool) → seesChroma b ≡ t → ((i : ℕ) → getD (drop (cx b) (n .above-uv)) i 0 ≤ 1) × ((i : ℕ) → getD (drop (cy b) (n .left-uv)) i 0 ≤ 1)
     uv-low true e =
-        contexts-low 1 (chromaBlock b (atBlock b m)) (drop (cx b) (n .above-uv)) (drop (cy b) (n .left-uv)) chroma-low
+        contexts-low 1 (chromaBlock b (atBlock b m)) (drop (cx b) (n .above-uv)) (drop (cy b) (n .left-uv)) (λ k. omega (arith, chroma-low k))
         (dropped (cx b) 1 (m .above-uv) (r .above-uv)) (dropped (cy b) 1 (m .left-uv) (r .left-uv)) (st .chroma e)
     uv-low false e = (
       λ i. rw (st .chroma-stay e .0) (dropped (cx b) 1 (m .above-uv) (r .above-uv) i),
@@ -167,7 +164,7 @@ chroma-most : (ss w : ℕ) → ss ≤ 1 → w ≤ 64 → chromaUnits ss w ≤ 64
 chroma-most ss w s h =
     by-cases (ℕ-discrete ss 0) (λ e. rw e (omega arith)) (λ n. let e : ss ≡ 1 = omega arith in rw e (omega arith))
 
-module _ (b : Block) (m : Lent) (r : Room m) (blockWidth : b .width .0 ≤ 256) (blockHeight : b .height .0 ≤ 256) where
+module _ (b : Block) (m : Lent) (r : Room m) (width-le : b .width .0 ≤ 256) (height-le : b .height .0 ≤ 256) where
   w-most : w4 b ≤ 64
   w-most = omega arith
 

@@ -3,22 +3,18 @@ use mathlib.Core.Bool.{true, false, false≢true}
 use mathlib.Core.List.{List, [], _∷_, _++_, append-assoc}
 use mathlib.Core.Logic.{by-cases}
 use mathlib.Core.Path.{_≡_, refl, sym, ap, _∙_}
-use Prim.Native.Nat.{ℕ, zero, suc, _+_, _-_, _*_, _/_, _%_, _≤_, _<_}
+use Prim.Native.Nat.{ℕ, zero, suc, _+_, _-_, _/_, _%_, _≤_, _<_}
 use native.Mathlib.Decide.{decLt}
 use native.Mathlib.Omega.{arith}
 use borrow.Author.Tests.{le-leb}
 use lib.ListN.{getD, drop}
 use Rattle.loops.proofs.Bools.{both-true}
 use Rattle.list_decimal.specs.Decimal.{isDigit, digits, value, decimal}
-use Rattle.list_decimal.proofs.Numerals.{decimal-one, decimal-more}
+use Rattle.list_decimal.proofs.Numerals.{decimal-one, decimal-more, value-append}
 use Rattle.list_text.specs.Text.{tab, end, refused, fieldText, refusedText, formText}
 use Rattle.list_edges.specs.Listed.{Held, listText}
 
 -- ---- the digits of a number
-
-value-append : (n : ℕ) (s t : List ℕ) → value n (s ++ t) ≡ value (value n s) t
-value-append n [] t = refl
-value-append n (b ∷ s) t = value-append (n * 10 + (b - 48)) s t
 
 digits-more : (s : List ℕ) (b : ℕ) → digits s ≡ true → isDigit b ≡ true → digits (s ++ (b ∷ [])) ≡ true
 digits-more [] b h g = rw g refl

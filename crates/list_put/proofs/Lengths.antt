@@ -13,7 +13,7 @@ use Rattle.plane.specs.Line.{Pass, columns, rows, passNo}
 use Rattle.plane.specs.Plane.{unit}
 use Rattle.units.specs.Layout.{hasChroma, ssHor, ssVer}
 use Rattle.units.specs.Memory.{levelAt}
-use Rattle.units.proofs.Places.{chroma-units-le, ss-hor-le, ss-ver-le}
+use Rattle.units.proofs.Places.{chroma-units-le, ss-hor-le, ss-ver-le, pass-lt}
 use Rattle.edges.specs.Edges.{lumaGrid, chromaGrid, unitsOf, edge}
 use Rattle.list_text.specs.Text.{tab, end, edgeText, totalText}
 use Rattle.list_text.proofs.Puts as text
@@ -64,10 +64,6 @@ line-short plane pass x y class level a b c d e f =
       text.field-short class tab 0 e,
       text.field-short level end 2 f,
     )
-
-pub pass-lt : (d : Pass) → passNo d < 2
-pass-lt columns = omega arith
-pass-lt rows = omega arith
 
 pub wide-le : (s : Held) (p : ℕ) → unitsOf (gridIn s p) columns ≤ s .w4
 wide-le s p = go (eqb p 0)

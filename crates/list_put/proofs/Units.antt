@@ -16,7 +16,7 @@ use Rattle.units.specs.Frame.{records, frameRecords}
 use Rattle.units.specs.Layout.{ssHor, ssVer}
 use Rattle.units.specs.Memory.{levelAt}
 use Rattle.units.specs.Units.{chromaUnits}
-use Rattle.units.proofs.Places.{ss-hor-le, ss-ver-le, level-in}
+use Rattle.units.proofs.Places.{ss-hor-le, ss-ver-le, level-in, pass-lt}
 use Rattle.edges.specs.Edges.{Grid, Proper, gridOf, lumaGrid, chromaGrid, unitsOf, edgeBit, inFrame, edge}
 use Rattle.list_text.specs.Text.{edgeText, Put}
 use Rattle.edges.specs.Bit.{Near}
@@ -27,7 +27,7 @@ use Rattle.list_edges.specs.Listed.{Held, Edge, gridIn, area, levelIn, edgeIn, 
 use Rattle.list_put.specs.declared.Part.{Part}
 use Rattle.list_put.specs.declared.Written.{Written}
 use Rattle.list_put.specs.Written.{heldIn, gridAt, Inside, Room, Wrote}
-use Rattle.list_put.proofs.Lengths.{Short, pass-lt, wide-le, high-le}
+use Rattle.list_put.proofs.Lengths.{Short, wide-le, high-le}
 use Rattle.list_put.proofs.Writes.{wrote-none, wrote-one}
 
 -- ---- the plane

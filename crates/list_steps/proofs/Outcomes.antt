@@ -77,8 +77,8 @@ by-outcome k s P f g =
 
 -- ---- the frame
 
-sides : (n : ℕ) → Reflects (sideOk n) ((1 ≤ n) × (n ≤ 256))
-sides n = reflects-and (reflects-leb 1 n) (reflects-leb n 256)
+pub reflects-side : (n : ℕ) → Reflects (sideOk n) ((1 ≤ n) × (n ≤ 256))
+reflects-side n = reflects-and (reflects-leb 1 n) (reflects-leb n 256)
 
 accepted : (b : Bool) → cond {A = ℕ} b 0 4 ≡ 0 → b ≡ true
 accepted true e = refl
@@ -89,7 +89,7 @@ frame-fits : (width height layout depth superblock sharpness : ℕ) → frameNum
 unfolding frameNumber
 frame-fits width height layout depth superblock sharpness e =
     let f = passed (not (depthOk depth)) 3 _ (omega arith) (passed (ltb 7 sharpness) 1 _ (omega arith) e .1) .1 in
-    reflects-and (reflects-flag (layoutOk layout)) (reflects-and (sides width) (reflects-and (sides height) (reflects-flag (superblockOk superblock))))
+    reflects-and (reflects-flag (layoutOk layout)) (reflects-and (reflects-side width) (reflects-and (reflects-side height) (reflects-flag (superblockOk superblock))))
     .yes (accepted (layoutOk layout && (sideOk width && (sideOk height && superblockOk superblock))) f)
 
 proper : {k j : Kept} {l : ScriptLine} → Outcome k l j → Proper (k .state) → Proper (j .state)

@@ -10,7 +10,7 @@ use lib.Seq.{getD-set-same, getD-set-other}
 use Rattle.mask_edges.specs.Folds.{stores}
 
 module _ (f : ℕ → ℕ) (c : List ℕ) where
-  length-stores : (n : ℕ) → length (stores n f c) ≡ length c
+  pub length-stores : (n : ℕ) → length (stores n f c) ≡ length c
   unfolding stores
   length-stores zero = refl
   length-stores (suc n) = length-set (stores n f c) n (f n) ∙ length-stores n

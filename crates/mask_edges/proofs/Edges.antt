@@ -12,12 +12,11 @@ use borrow.Author.Tests.{ltb-true, ltb-false}
 use Rattle.loops.specs.Any.{anyBelow, Below}
 use Rattle.loops.specs.Exactly.{Reflects}
 use Rattle.loops.proofs.Anys.{any-same}
-use Rattle.loops.proofs.Reflected.{reflects-leb, reflects-eqb, reflects-flag, reflects-and, reflects-or, reflects-any}
+use Rattle.loops.proofs.Reflected.{reflects-leb, reflects-eqb, reflects-flag, reflects-and, reflects-or, reflects-any, reflects-same}
 use Rattle.bits.specs.Mark.{isSet, mark, marks, Adds}
 use Rattle.bits.proofs.Marks.{adds-mark, adds-then, adds-upTo, adds-marks}
 use Rattle.mask_edges.specs.Recording.{Sweep, classBefore, classAt, edges}
 use Rattle.mask_edges.specs.Folds.{blockEdge, stepEdges, walk, lineEdges, gridPass, cellPass}
-use Rattle.mask_edges.proofs.Halves.{reflects-same}
 use Rattle.mask_edges.proofs.LoopTurns.{stepping}
 use Rattle.mask_edges.proofs.TransformsAlong.{Tiles, within, next, none}
 

@@ -1,6 +1,6 @@
 -- A run of places or-ed in as two words, each the part of one half, is the run of marks: both have the same bits, and words with the same bits are the same.
-use mathlib.Core.Path.{_≡_, refl, sym, ap, _∙_}
-use mathlib.Core.Bool.{Bool, true, false, _&&_, _||_, or-assoc, false≢true}
+use mathlib.Core.Path.{_≡_, sym, ap, _∙_}
+use mathlib.Core.Bool.{Bool, _&&_, _||_, or-assoc, false≢true}
 use mathlib.Core.Logic.{_⊎_, inl, inr, by-cases}
 use mathlib.Core.List.{List}
 use Prim.Native.Nat.{ℕ, _+_, _-_, _*_, _/_, _%_, _^_, _≤_, _<_}
@@ -13,23 +13,12 @@ use lib.Pow.{pow-pos, pow-mono, split}
 use lib.ListN.{length, getD, set, length-set}
 use Rattle.loops.specs.Any.{anyBelow, Below}
 use Rattle.loops.specs.Exactly.{Reflects}
-use Rattle.loops.proofs.Reflected.{reflects-ltb, reflects-leb, reflects-eqb, reflects-as, reflects-and, reflects-or, reflects-any}
+use Rattle.loops.proofs.Reflected.{reflects-ltb, reflects-leb, reflects-eqb, reflects-as, reflects-and, reflects-or, reflects-any, reflects-same}
 use Rattle.bits.specs.Bit.{bit, hasBit}
 use Rattle.bits.specs.Mark.{isSet, marks, Words}
 use Rattle.bits.proofs.Bits.{bit-small, bit-low, bit-high, hasBit-0, has-of-bit, hasBit-run}
 use Rattle.bits.proofs.Marks.{isSet-ext, isSet-or, isSet-marks, length-marks, words-or, words-marks}
 use Rattle.mask_edges.proofs.Words.{low-half, high-half}
-
--- ---- facts and tests
-
-pub reflects-same : {a b : Bool} {P Q : Type 0} → Reflects a P → Reflects b Q → (P → Q) → (Q → P) → a ≡ b
-reflects-same {a} {b} r s f g = go a b r s f g
-  where
-    go : {P Q : Type 0} (a b : Bool) → Reflects a P → Reflects b Q → (P → Q) → (Q → P) → a ≡ b
-    go true true r s f g = refl
-    go false false r s f g = refl
-    go true false r s f g = absurd (s .no refl (f (r .yes refl)))
-    go false true r s f g = absurd (r .no refl (g (s .yes refl)))
 
 -- ---- the bits of the two words
 

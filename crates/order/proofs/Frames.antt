@@ -37,40 +37,40 @@ module _ (P : Plane) (k : Kept P) (f : Fair (P .widths)) where
 
 module _ (P : Plane) (i : ℕ) where
   abbrev colsList : List Piece
-  colsList = cat (λ g. cat (λ x. cat (λ y. (g * P .recordUnits + x, i * P .sb + y) ∷ []) (P .sb)) (P .recordUnits)) (P .records)
+  colsList = cat (λ rec. cat (λ x. cat (λ y. (rec * P .recordUnits + x, i * P .sb + y) ∷ []) (P .sb)) (P .recordUnits)) (P .records)
 
   abbrev rowsList : List Piece
-  rowsList = cat (λ g. cat (λ y. cat (λ x. (i * P .sb + y, g * P .recordUnits + x) ∷ []) (P .recordUnits)) (P .sb)) (P .records)
+  rowsList = cat (λ rec. cat (λ y. cat (λ x. (i * P .sb + y, rec * P .recordUnits + x) ∷ []) (P .recordUnits)) (P .sb)) (P .records)
 
   cols-run : (s : List ℕ) → colsOf P i s ≡ run (act P columns) colsList s
   unfolding colsOf
-  cols-run = loop-run _ _ _ (λ g. loop-run _ _ _ (λ x. loop-run _ _ _ (λ y s. refl) (P .sb)) (P .recordUnits)) (P .records)
+  cols-run = loop-run _ _ _ (λ rec. loop-run _ _ _ (λ x. loop-run _ _ _ (λ y s. refl) (P .sb)) (P .recordUnits)) (P .records)
 
   rows-run : (s : List ℕ) → rowsOf P i s ≡ run (act P rows) rowsList s
   unfolding rowsOf
-  rows-run = loop-run _ _ _ (λ g. loop-run _ _ _ (λ y. loop-run _ _ _ (λ x s. refl) (P .recordUnits)) (P .sb)) (P .records)
+  rows-run = loop-run _ _ _ (λ rec. loop-run _ _ _ (λ y. loop-run _ _ _ (λ x s. refl) (P .recordUnits)) (P .sb)) (P .records)
 
   cols-only : All (InRow P columns i) colsList
   cols-only =
-      all-cat _ _ (P .records) (λ g _. all-cat _ _ (P .recordUnits) (λ x _. all-cat _ _ (P .sb) (λ y h. (record { from = omega arith; to = omega arith }, tt))))
+      all-cat _ _ (P .records) (λ rec _. all-cat _ _ (P .recordUnits) (λ x _. all-cat _ _ (P .sb) (λ y h. (record { from = omega arith; to = omega arith }, tt))))
 
   rows-only : All (InRow P rows i) rowsList
   rows-only =
-      all-cat _ _ (P .records) (λ g _. all-cat _ _ (P .sb) (λ y h. all-cat _ _ (P .recordUnits) (λ x _. (record { from = omega arith; to = omega arith }, tt))))
+      all-cat _ _ (P .records) (λ rec _. all-cat _ _ (P .sb) (λ y h. all-cat _ _ (P .recordUnits) (λ x _. (record { from = omega arith; to = omega arith }, tt))))
 
   cols-distinct : Distinct colsList
   cols-distinct =
       distinct-cat _ (λ p. p .0 / P .recordUnits) (P .records)
-      (λ g _. all-cat _ _ (P .recordUnits) (λ x h. all-cat _ _ (P .sb) (λ y _. (digits-div g h, tt))))
-      (λ g. distinct-cat _ (λ p. p .0 - g * P .recordUnits) (P .recordUnits) (λ x _. all-cat _ _ (P .sb) (λ y _. (omega arith, tt)))
+      (λ rec _. all-cat _ _ (P .recordUnits) (λ x h. all-cat _ _ (P .sb) (λ y _. (digits-div rec h, tt))))
+      (λ rec. distinct-cat _ (λ p. p .0 - rec * P .recordUnits) (P .recordUnits) (λ x _. all-cat _ _ (P .sb) (λ y _. (omega arith, tt)))
       (λ x. distinct-cat _ (λ p. p .1 - i * P .sb) (P .sb) (λ y _. (omega arith, tt)) (λ y. (tt, tt))))
 
   rows-distinct : Distinct rowsList
   rows-distinct =
       distinct-cat _ (λ p. p .1 / P .recordUnits) (P .records)
-      (λ g _. all-cat _ _ (P .sb) (λ y _. all-cat _ _ (P .recordUnits) (λ x h. (digits-div g h, tt))))
-      (λ g. distinct-cat _ (λ p. p .0 - i * P .sb) (P .sb) (λ y _. all-cat _ _ (P .recordUnits) (λ x _. (omega arith, tt)))
-      (λ y. distinct-cat _ (λ p. p .1 - g * P .recordUnits) (P .recordUnits) (λ x _. (omega arith, tt)) (λ x. (tt, tt))))
+      (λ rec _. all-cat _ _ (P .sb) (λ y _. all-cat _ _ (P .recordUnits) (λ x h. (digits-div rec h, tt))))
+      (λ rec. distinct-cat _ (λ p. p .0 - i * P .sb) (P .sb) (λ y _. all-cat _ _ (P .recordUnits) (λ x _. (omega arith, tt)))
+      (λ y. distinct-cat _ (λ p. p .1 - rec * P .recordUnits) (P .recordUnits) (λ x _. (omega arith, tt)) (λ x. (tt, tt))))
 
 pair : {a b c d : ℕ} → a ≡ c → b ≡ d → _≡_ {A = Piece} (a, b) (c, d)
 pair e f = λ j. (e j, f j)
@@ -263,7 +263,7 @@ module _ (P : Plane) (k : Kept P) (f : Fair (P .widths)) where
         keeps : (s : List ℕ) → length (run (act P columns) lc s) ≡ length s
         keeps = run-keeps (act P columns) (lineOf columns (P .stride)) (Writes P columns) (Reads P columns) (local P k f columns) lc
 
--- ---- the two kinds of plane: the widest class sees farthest
+-- ---- luma and chroma: the widest class sees farthest
 
 pub far-luma : (n : ℕ) → luma .reads 2 + luma .writes 2 ≤ n + 1 → (c : ℕ) → luma .reads c + luma .writes c ≤ n + 1
 far-luma n h zero = omega arith

@@ -1,4 +1,4 @@
--- The promises, proved: both kinds of plane are fair, and a frame of three planes is done plane by plane.
+-- The promises, proved: luma and chroma are fair, and a frame of three planes is done plane by plane.
 use Prim.Native.Nat.{ℕ, _+_, _≤_}
 use native.Mathlib.Omega.{arith}
 use mathlib.Core.Path.{_≡_, refl, sym, ap, _∙_, subst⁻¹}

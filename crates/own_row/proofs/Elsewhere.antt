@@ -4,7 +4,6 @@ use mathlib.Core.Bool.{Bool, true, false, cond, _||_, or-false, false≢true}
 use mathlib.Core.List.{List}
 use Prim.Native.Nat.{ℕ, zero, suc, _+_, _*_, _/_, _%_, _^_, _≤_, _<_}
 use native.Mathlib.Omega.{arith}
-use lib.Arith.{digits-div, digits-mod}
 use lib.Dec.{eqb}
 use lib.ListN.{length, set, length-set}
 use lib.Seq.{getD-set-other}
@@ -19,10 +18,10 @@ use Rattle.units.specs.Layout.{ssHor, ssVer}
 use Rattle.units.specs.Masks.{lumaWord, chromaWord, halfUnits}
 use Rattle.units.specs.Memory.{levelAt}
 use Rattle.units.specs.Units.{chromaUnit}
-use Rattle.units.proofs.Places.{by-ss, chroma-units-le}
+use Rattle.units.proofs.Places.{by-ss, chroma-units-le, pass-lt}
 use Rattle.edges.specs.Edges as edges
 use Rattle.edges.specs.Edges.{Grid, Proper, ssOf, unitsOf, side, half, recordAt, classes, wordIn, edgeBit}
-use Rattle.edges.proofs.Bits.{edge-bit-in}
+use Rattle.edges.proofs.Bits.{edge-bit-in, ss-le}
 use Rattle.gap.specs.Numbers.{sbUnits, storedUnits, halfBit}
 use Rattle.gap.specs.Promises.{Across, Along}
 use Rattle.gap.proofs.NumbersMean.{promises}
@@ -36,24 +35,14 @@ use Rattle.checks.proofs.Accepted.{accepted-shape, accepted-lengths}
 use Rattle.apply.specs.Apply.{componentOf}
 use Rattle.frames.specs.Calls.{Frame, callAt, lentOf, sbRows, Accepted}
 use Rattle.frames.proofs.GapKept.{Size, by-size}
+use Rattle.loops.proofs.Products.{row-inj}
 use Rattle.own_row.specs.Own.{OwnLine, SameTables}
 use Rattle.own_row.specs.Elsewhere.{OtherLevel, OtherEdge, Elsewhere}
 use Rattle.own_row.specs.Turns.{Moment, OwnRows}
 use Rattle.own_row.proofs.Bits.{stored-half}
 use Rattle.own_row.proofs.Numbers.{back-tables}
 
--- two places in lines of n
-digits : (a b x y n : ℕ) → x < n → y < n → a * n + x ≡ b * n + y → (a ≡ b) × (x ≡ y)
-digits a b x y n h g e = (
-  sym (digits-div a h) ∙ ap (λ (z : ℕ). z / n) e ∙ digits-div b g,
-  sym (digits-mod a h) ∙ ap (λ (z : ℕ). z % n) e ∙ digits-mod b g,
-)
-
 -- ---- level bytes
-
-pass-lt : (d : Pass) → passNo d < 2
-pass-lt columns = omega arith
-pass-lt rows = omega arith
 
 -- a plane of chroma
 later : (n : ℕ) → eqb (suc n) 0 ≡ false
@@ -81,7 +70,7 @@ own-level c n x y l r h o a =
     let k′ = area-lt c (a .plane) (a .pass) (a .a-plane) in
     let p : y * c .«level_stride» + x ≡ a .y * c .«level_stride» + a .x = omega (arith, a .at) in
     let q : areaOf (componentOf c n) (callPass c) ≡ areaOf (componentOf c (a .plane)) (a .pass) = omega (arith, a .at) in
-    let z = digits y (a .y) x (a .x) (c .«level_stride») (omega arith) (omega (arith, a .right)) p in
+    let z = row-inj y (a .y) x (a .x) (c .«level_stride») (omega arith) (omega (arith, a .right)) p in
     let g = area-grid c n (a .plane) (callPass c) (a .pass) q in
     a .line (subst (λ (G : Grid). OwnLine G (sb4 c) (c .row) (passNo (callPass c)) (a .y)) g (rw (← z .0) o))
 
@@ -117,8 +106,8 @@ told : (G H : Grid) → Proper G → Proper H → (d d′ : Pass) (u u′ k k′
     → halfBit G d u k j b ≡ halfBit H d′ u′ k′ j′ b′ → Told G H d d′ u u′ j j′
 unfolding halfBit
 told G H p q d d′ u u′ k k′ j j′ b b′ x x′ y y′ e =
-    let s = side-le u (ssOf G d) (masks.ss-le G p d) in
-    let s′ = side-le u′ (ssOf H d′) (masks.ss-le H q d′) in
+    let s = side-le u (ssOf G d) (ss-le G p d) in
+    let s′ = side-le u′ (ssOf H d′) (ss-le H q d′) in
     let w = word-in (G .luma) d (u % side G d) k (j % 2) s x (omega arith) in
     let w′ = word-in (H .luma) d′ (u′ % side H d′) k′ (j′ % 2) s′ x′ (omega arith) in
     let z : wordIn G d (u % side G d) k (j % 2) ≡ wordIn H d′ (u′ % side H d′) k′ (j′ % 2) = omega arith in
@@ -139,11 +128,11 @@ side-again u u′ = by-ss (λ ss. u / (32 / 2 ^ ss) ≡ u′ / (32 / 2 ^ ss) →
 
 one-unit : (G : Grid) → Proper G → (d : Pass) (u u′ j j′ : ℕ) → In G d u j → In G d u′ j′ → Told G G d d u u′ j j′ → (u ≡ u′) × (j ≡ j′)
 one-unit G p columns u u′ j j′ x x′ t =
-    let i = digits (j / 2) (j′ / 2) (u / side G columns) (u′ / side G columns) (records (G .w4)) (record-lt (G .ss-hor) _ u (p .ss-hor-le) x)
+    let i = row-inj (j / 2) (j′ / 2) (u / side G columns) (u′ / side G columns) (records (G .w4)) (record-lt (G .ss-hor) _ u (p .ss-hor-le) x)
     (record-lt (G .ss-hor) _ u′ (p .ss-hor-le) x′) (t .recordNo) in
     (side-again u u′ (G .ss-hor) (p .ss-hor-le) (i .1) (t .unit), omega (arith, i .0, t .halfNo))
 one-unit G p rows u u′ j j′ x x′ t =
-    let i = digits (u / side G rows) (u′ / side G rows) (j / 2) (j′ / 2) (records (G .w4)) (omega arith) (omega arith) (t .recordNo) in
+    let i = row-inj (u / side G rows) (u′ / side G rows) (j / 2) (j′ / 2) (records (G .w4)) (omega arith) (omega arith) (t .recordNo) in
     (side-again u u′ (G .ss-ver) (p .ss-ver-le) (i .0) (t .unit), omega (arith, i .1, t .halfNo))
 
 -- a line in a half of the row is the row's

@@ -5,7 +5,7 @@ use mathlib.Core.List.{List}
 use mathlib.Core.Logic.{⊎-elim}
 use Prim.Native.Nat.{ℕ, _<_}
 use native.Mathlib.Omega.{arith}
-use Rattle.loops.specs.Exactly.{Reflects}
+use Rattle.loops.proofs.Reflected.{reflects-same}
 use Rattle.checks.specs.declared.Call.{Call}
 use Rattle.checks.specs.Call.{Lent, samples, callPass, sb4, gridOf, Filtered, Shaped}
 use Rattle.checks.specs.Tests.{levelBad, depthBad, shapeBad, lengthBad, inside, levelsBad, planesBad, gapBad, maskBad, number}
@@ -107,12 +107,6 @@ gap-fault c m m′ s h a =
 
 -- ---- each test
 
-alike : {P Q : Type 0} (a b : Bool) → Reflects a P → Reflects b Q → (P → Q) → (Q → P) → a ≡ b
-alike true true p q f g = refl
-alike true false p q f g = absurd (q .no refl (f (p .yes refl)))
-alike false true p q f g = absurd (p .no refl (g (q .yes refl)))
-alike false false p q f g = refl
-
 guarded : (b : Bool) (n x y : ℕ) → (b ≡ false → x ≡ y) → cond b n x ≡ cond b n y
 guarded true n x y h = refl
 guarded false n x y h = h refl
@@ -129,13 +123,13 @@ module _ (c : Call) (m m′ : Lent) (s : SameLent c m m′) where
       let h = shaped c e in
       let p = some-sb h in
       let level : levelsBad c (m .levels) ≡ levelsBad c (m′ .levels) =
-      alike _ _ (reflects-bytes c p m) (reflects-bytes c p m′) (level-fault c m m′ s) (level-fault c m′ m (back s)) in
+      reflects-same (reflects-bytes c p m) (reflects-bytes c p m′) (level-fault c m m′ s) (level-fault c m′ m (back s)) in
       let plane : planesBad c m ≡ planesBad c m′ =
-      alike _ _ (reflects-planes-bad c p m) (reflects-planes-bad c p m′) (plane-fault c m m′ s) (plane-fault c m′ m (back s)) in
+      reflects-same (reflects-planes-bad c p m) (reflects-planes-bad c p m′) (plane-fault c m m′ s) (plane-fault c m′ m (back s)) in
       let gap : gapBad c (m .masks) ≡ gapBad c (m′ .masks) =
-      alike _ _ (reflects-gap c m) (reflects-gap c m′) (gap-fault c m m′ s h) (gap-fault c m′ m (back s) h) in
+      reflects-same (reflects-gap c m) (reflects-gap c m′) (gap-fault c m m′ s h) (gap-fault c m′ m (back s) h) in
       let mask : maskBad c (m .masks) ≡ maskBad c (m′ .masks) =
-      alike _ _ (reflects-mask c m) (reflects-mask c m′) (mask-fault c m m′ s) (mask-fault c m′ m (back s)) in
+      reflects-same (reflects-mask c m) (reflects-mask c m′) (mask-fault c m m′ s) (mask-fault c m′ m (back s)) in
       λ q.
       cond (lengthBad c (s .tables .levels-long q) (s .tables .masks-long q)) 7
       (cond (level q) 8 (cond (plane q) 9 (cond (not (inside c)) 10 (cond (gap q) 11 (cond (mask q) 12 0)))))))

@@ -30,6 +30,7 @@ use Rattle.apply.specs.Apply.{Limits, componentOf, tablesOf, planeAt, threeOf, 
 use Rattle.apply.specs.Promises.{passed}
 use Rattle.apply.proofs.Laws as apply
 use Rattle.apply.proofs.ReadyPlanes.{ready}
+use Rattle.apply.proofs.Laws.{FiltersChroma, u-filters, v-filters}
 use Rattle.frames.specs.Within.{WithinRow, Agree}
 use Rattle.frames.proofs.CallReach.{fair, sweep-outside, sweep-inside}
 use Rattle.own_row.specs.Own.{OwnSample, SameSamples, SameTables, SameLent, withSamples}
@@ -102,27 +103,18 @@ module _ (c : Call) (l : Limits) (m : Lent) (e : number c m ≡ 0) {n : ℕ} (f 
 -- ---- whether chroma is filtered
 
 module _ (c : Call) where
-  abbrev Plain : Type 0
-  Plain = (¬ (c .layout ≡ 400)) × (¬ ((c .«level_u» ≡ 0) × (c .«level_v» ≡ 0)))
-
-  plain-u : Filtered c 1 → Plain
-  plain-u (chroma-u a b) = (a, b)
-
-  plain-v : Filtered c 2 → Plain
-  plain-v (chroma-v a b) = (a, b)
-
-  dec-plain : Dec Plain
-  dec-plain = go (chromaOn c) (reflects-on c)
+  dec-chroma : Dec (FiltersChroma c)
+  dec-chroma = go (chromaOn c) (reflects-on c)
     where
-      go : (b : Bool) → Reflects b Plain → Dec Plain
+      go : (b : Bool) → Reflects b (FiltersChroma c) → Dec (FiltersChroma c)
       go true r = yes (r .yes refl)
       go false r = no (r .no refl)
 
   dec-u : Dec (Filtered c 1)
-  dec-u = by-cases dec-plain (λ p. yes (chroma-u (p .0) (p .1))) (λ n. no (λ f. n (plain-u f)))
+  dec-u = by-cases dec-chroma (λ p. yes (chroma-u (p .0) (p .1))) (λ n. no (λ f. n (u-filters c f)))
 
   dec-v : Dec (Filtered c 2)
-  dec-v = by-cases dec-plain (λ p. yes (chroma-v (p .0) (p .1))) (λ n. no (λ f. n (plain-v f)))
+  dec-v = by-cases dec-chroma (λ p. yes (chroma-v (p .0) (p .1))) (λ n. no (λ f. n (v-filters c f)))
 
 -- ---- an answer
 

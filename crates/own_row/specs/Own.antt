@@ -1,7 +1,7 @@
 -- What document 01 lets a call that filters look at ("Numbers returned", "Gap rule", "One line of samples"), as what two lendings have in common.
 --   SameBits G d sb4 k ..     the mask bits of row k: every class, in columns the row's halves of all stored units, in rows all halves of the row's units
 --   OwnLine G sb4 k a y       the unit line y is of row k, or of the a above it
---   SameLevels G d sb4 k ..   the level bytes of a area at the units of row k and, for rows, of the unit line above it
+--   SameLevels G d sb4 k ..   the level bytes of an area at the units of row k and, for rows, of the unit line above it
 --   OwnSample c n i           the sample at index i of plane n stands in the row's stored lines or, for rows, in the 8 above
 --   SameSamples c n ..        these samples
 --   SameTables c ..           the level bytes of this pass and the bits, of each plane that it filters

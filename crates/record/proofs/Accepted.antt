@@ -2,9 +2,9 @@
 use mathlib.Core.Bool.{Bool, true, false, cond, or-assoc}
 use mathlib.Core.List.{List}
 use mathlib.Core.Path.{_≡_, refl, _∙_}
-use Prim.Native.Nat.{ℕ, zero, suc, _+_, _*_, _%_, _≤_}
+use Prim.Native.Nat.{ℕ, _+_, _*_, _%_, _≤_}
 use native.Mathlib.Omega.{arith}
-use lib.ListN.{length, take, drop, length-set}
+use lib.ListN.{length, take, drop}
 use Rattle.bits.specs.Mark.{isSet}
 use Rattle.units.specs.Frame.{recordOf}
 use Rattle.units.specs.Masks.{lumaBit}
@@ -14,6 +14,7 @@ use Rattle.mask_edges.specs.Folds.{stores, aboveOf, leftOf}
 use Rattle.mask_edges.specs.Folds as folds
 use Rattle.mask_edges.specs.Recording as recording
 use Rattle.mask_edges.proofs.Theorems as mask-edges
+use Rattle.mask_edges.proofs.Contexts.{length-stores}
 use Rattle.block.specs.declared.Block.{Block}
 use Rattle.block.specs.Block.{w4, ss-hor, ss-ver, bw4, bh4, cbw4, cbh4, seesLuma, seesChroma, Lent, lent}
 use Rattle.block.specs.Tests.{number}
@@ -25,13 +26,8 @@ use Rattle.record.proofs.Frames.{part-long, Added, added}
 use Rattle.record.proofs.Fills.{block-levels}
 
 stores-long : (seen : Bool) (n : ℕ) (f : ℕ → ℕ) (c : List ℕ) → length (cond seen (stores n f c) c) ≡ length c
-unfolding stores
 stores-long false n f c = refl
-stores-long true n f c = go n
-  where
-    go : (n : ℕ) → length (stores n f c) ≡ length c
-    go zero = refl
-    go (suc n) = simp length-set (go n)
+stores-long true n f c = length-stores f c n
 
 module _ (b : Block) (level-stride : ℕ) (m : Lent) (ok : number b level-stride m ≡ 0) where
   s : Fitting b

@@ -132,21 +132,21 @@ other-area : (level-stride x y area x′ y′ k : ℕ) → area < 2 → k < 2 �
 unfolding levelAt
 other-area level-stride x y area x′ y′ k p q e = omega arith
 
-module _ (b : Block) (s : Fitting b) (level-stride : ℕ) (values ls : List ℕ) (blockWidth : w4 b ≤ level-stride) (long : 4 * level-stride * h4 b ≤ length ls) where
+module _ (b : Block) (s : Fitting b) (level-stride : ℕ) (values ls : List ℕ) (width-le : w4 b ≤ level-stride) (long : 4 * level-stride * h4 b ≤ length ls) where
   luma-area : Filled true level-stride (b .x .0) (b .y .0) (bw4 b) (bh4 b) 0 (valueOf b values) ls (lumaLevels b level-stride values ls)
   luma-area =
       filled true level-stride (b .x .0) (b .y .0) (bw4 b) (bh4 b) 0 (valueOf b values) ls
-      (λ e. (omega (arith, luma-cut b s e .0), luma-lines b s e level-stride (length ls) blockWidth long))
+      (λ e. (omega (arith, luma-cut b s e .0), luma-lines b s e level-stride (length ls) width-le long))
 
   module _ (ms : List ℕ) (same : length ms ≡ length ls) where
     chroma-area : Filled (b .chroma) level-stride (chromaUnit (ss-hor b) (b .x .0)) (chromaUnit (ss-ver b) (b .y .0)) (cbw4 b) (cbh4 b) 2 (λ k. valueOf b values (2 + k)) ms
         (chromaLevels b level-stride values ms)
     chroma-area =
         filled (b .chroma) level-stride (chromaUnit (ss-hor b) (b .x .0)) (chromaUnit (ss-ver b) (b .y .0)) (cbw4 b) (cbh4 b) 2 (λ k. valueOf b values (2 + k)) ms
-        (λ e. (chroma-wide e, chroma-lines b s e level-stride (length ms) blockWidth (omega arith)))
+        (λ e. (chroma-wide e, chroma-lines b s e level-stride (length ms) width-le (omega arith)))
       where
         chroma-wide : seesChroma b ≡ true → cbw4 b ≤ level-stride
-        chroma-wide e = through (chromaUnit (ss-hor b) (b .x .0)) (chroma-cut b s e .0) (chroma-units-le (w4 b) (ss-hor b) (ss-hor-le (b .layout))) blockWidth
+        chroma-wide e = through (chromaUnit (ss-hor b) (b .x .0)) (chroma-cut b s e .0) (chroma-units-le (w4 b) (ss-hor b) (ss-hor-le (b .layout))) width-le
           where
             through : (u : ℕ) {k m n t : ℕ} → u + k ≤ m → m ≤ n → n ≤ t → k ≤ t
             through u p q r = omega arith

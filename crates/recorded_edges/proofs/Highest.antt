@@ -9,8 +9,7 @@ use native.Mathlib.Omega.{arith}
 use lib.Dec.{eqb}
 use borrow.Author.Tests.{eq-eqb, ne-eqb}
 use Rattle.edges.specs.Edges.{highest}
-use Rattle.walk.specs.Walk.{lumaLen, chromaLen, lenOf}
-use Rattle.agree.specs.Promises.{widthOf}
+use Rattle.walk.specs.Walk.{lumaLen, chromaLen, lenOf, widthOf}
 use Rattle.recorded_edges.specs.Held.{stands, widthIn, greater}
 
 -- ---- the highest class

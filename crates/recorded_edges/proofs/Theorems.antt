@@ -26,10 +26,11 @@ use Rattle.correct.specs.Answer.{CorrectAnswer}
 use Rattle.correct.specs.Promises.{CorrectedUnit}
 use Rattle.correct.proofs.AnswerLaws as told
 use Rattle.agree.specs.Legal.{Coded, Tells}
-use Rattle.agree.specs.Promises.{widthOf, start, Agrees}
+use Rattle.agree.specs.Promises.{start, Agrees}
 use Rattle.covering.specs.Standard.{transformAt, visitedRow, visitedCol, appliesAt}
 use Rattle.drawn.specs.Owner.{StandsIn, Owns, sweepIn}
 use Rattle.drawn.proofs.CorrectedStart.{new-class}
+use Rattle.walk.specs.Walk.{widthOf}
 use Rattle.recorded_edges.specs.Held.{placeIn, blockGrid, SeenIn, lentContext, HoldsBlock, ContextTells, standardEdge, stands, widthIn, greater, Stays}
 use Rattle.recorded_edges.specs.Promises.{Promises}
 use Rattle.recorded_edges.proofs.Highest.{highest-same, none-set, raised, highest-raised, raised-stands, width-raised}

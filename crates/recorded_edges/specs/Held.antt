@@ -31,8 +31,8 @@ use Rattle.block.specs.declared.Block.{Block}
 use Rattle.block.specs.Block.{w4, h4, ss-hor, ss-ver, Lent}
 use Rattle.record.specs.Recorded.{LumaSeen, ChromaSeen}
 use Rattle.agree.specs.Legal.{Coded, Legal, Tells}
-use Rattle.agree.specs.Promises.{widthOf}
 use Rattle.covering.specs.Standard.{transformAt, visitedRow, visitedCol, appliesAt}
+use Rattle.walk.specs.Walk.{widthOf}
 
 -- ---- the call's block
 

@@ -1,7 +1,7 @@
 -- Numbers 8 and 9 in superblock row k, of sb lines of units of a plane. `above` is how many lines before the row's own are looked at too.
 --   someFrom        some number from a on, below b, passes a test
 --   levelHigh       a level byte is above 63
---   levelsHigh      number 8 of one area of level: that of some unit in the frame, which has width by height of them, in the row's lines
+--   levelsHigh      number 8 of one area: that of some unit in the frame, which has width by height of them, in the row's lines
 --   lumaLevelsHigh, chromaLevelsHigh     that of luma, and of U or V, in a frame of w4 by h4 luma units and superblocks of sb4
 --   sampleHigh      a sample is above max
 --   samplesHigh     number 9 of the samples: some sample of the stored width, in the row's stored lines, four to a unit

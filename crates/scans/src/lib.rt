@@ -52,7 +52,7 @@ fn or_levels(levels: &[u8], level_stride: usize, w: usize, first: usize, n: usiz
     acc
 }
 
-// The levels of row k, all kinds at once: those of width by height units, in the row's lines and `above` before them.
+// The levels of row k, all areas at once: those of width by height units, in the row's lines and `above` before them.
 fn row_levels(
     levels: &[u8],
     level_stride: usize,

@@ -1,7 +1,7 @@
 -- The screen in units: 4 * u * 2 ^ ss samples lie before the frame's end exactly if u lies below its units, rounded up twice; and a block that is cut there shows
 -- exactly those of its units.
 use mathlib.Core.Path.{_≡_, refl, sym, ap, ap₂, _∙_}
-use mathlib.Core.Bool.{Bool, true, false, not, _&&_, false≢true, and-eq-true-iff}
+use mathlib.Core.Bool.{Bool, true, not, _&&_, false≢true, and-eq-true-iff}
 use mathlib.Core.Logic.{by-cases}
 use Prim.Native.Nat.{ℕ, zero, suc, _+_, _-_, _*_, _^_, _≤_, _<_, min}
 use native.Mathlib.Nat.{mul-le-mul-left, one-le-pow}

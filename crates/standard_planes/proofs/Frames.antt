@@ -4,14 +4,14 @@ use native.Mathlib.Nat.{div-add-mod', mod-lt, div-lt-iff-lt-mul}
 use native.Mathlib.Omega.{arith}
 use mathlib.Core.Bool.{Bool, true, false}
 use mathlib.Core.List.{List}
-use mathlib.Core.Option.{Option, some, none}
+use mathlib.Core.Option.{some, none}
 use mathlib.Core.Path.{_≡_, refl, sym, ap, _∙_, subst}
 use lib.ListN.{length}
 use Rattle.loops.specs.Run.{run, upTo}
 use Rattle.plane.specs.Line.{Pass, columns, rows, Piece}
 use Rattle.plane.specs.Plane.{Plane, class, act, InRow, down}
 use Rattle.plane.specs.Three.{Three}
-use Rattle.plane.proofs.Pieces.{inner-some, idle}
+use Rattle.plane.proofs.Pieces.{inner-some, idle, not-both}
 use Rattle.line.specs.Width.{reads}
 use Rattle.limits.specs.Limits.{limitsOf}
 use Rattle.gap.proofs.NumbersMean.{edge-in}
@@ -29,7 +29,8 @@ use Rattle.frames.proofs.GapKept.{some-sb, in-superblocks}
 use Rattle.frames.proofs.Sweeps.{shown-none}
 use Rattle.frames.proofs.NumbersKept.{Done, done}
 use Rattle.frames.proofs.Theorems as frames
-use Rattle.standard_planes.specs.Piece.{widthAt, There}
+use Rattle.walk.specs.Walk.{widthOf}
+use Rattle.standard_planes.specs.Piece.{There}
 use Rattle.standard_planes.specs.Frame.{Sharp, frameLevel, Filters, Steps, ByStandard}
 use Rattle.standard_planes.proofs.Pieces.{limits-are, no-level, piece-is}
 use Rattle.standard_planes.proofs.PieceSamples.{asked-row}
@@ -78,7 +79,7 @@ module _ (f : Frame) (s : Three (List ℕ)) (a : Accepted f s) where
 
     -- what the call of that row asks of it
     asks : (d : Pass) (p : Piece) (cls : ℕ) → class P d p ≡ some cls
-        → (frameLevel f n d p ≤ 63) × There d (strideOf (f .head) n) (reads (widthAt n cls)) p (length (samples (lentOf f s) n))
+        → (frameLevel f n d p ≤ 63) × There d (strideOf (f .head) n) (reads (widthOf n cls)) p (length (samples (lentOf f s) n))
     asks d p cls e =
         let r = row d p cls e in
         asked-row C _ _ stored (r .0) p cls d (its d (r .0) (r .1) .fit) (r .2) e
@@ -114,11 +115,8 @@ module _ (f : Frame) (s : Three (List ℕ)) (a : Accepted f s) where
           unfiltered = λ _. shown-none Q;
           unit = λ d p t _.
               let z = shown-none Q d p in
-              record { no-piece = λ _. idle (shown false Q) d p z t; no-level = λ _. idle (shown false Q) d p z t; lines = λ cls is o. absurd (differ (sym z ∙ is)) };
+              record { no-piece = λ _. idle (shown false Q) d p z t; no-level = λ _. idle (shown false Q) d p z t; lines = λ cls is o. absurd (not-both (sym z ∙ is)) };
         }
-      where
-        differ : {c : ℕ} → _≡_ {A = Option ℕ} none (some c) → ⊥
-        differ e = let z : _≡_ {A = ℕ} 0 1 = cc in omega arith
 
     off-u : Filtered (f .head) 1 → chromaOn (f .head) ≡ false → ⊥
     off-u (chroma-u x y) e = reflects-on (f .head) .no e (x, y)

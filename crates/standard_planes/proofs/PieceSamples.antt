@@ -25,7 +25,8 @@ use Rattle.checks.specs.Tests.{number}
 use Rattle.apply.specs.Apply.{componentOf, Limits, tablesOf, planeAt}
 use Rattle.apply.proofs.ReadyPlanes.{ready}
 use Rattle.frames.proofs.CallReach.{far}
-use Rattle.standard_planes.specs.Piece.{pieceLevel, widthAt, There}
+use Rattle.walk.specs.Walk.{widthOf}
+use Rattle.standard_planes.specs.Piece.{pieceLevel, There}
 
 -- a sample of one of n lines
 in-lines : (S n len t y : ℕ) → n * S ≤ len → t < n → y < S → t * S + y < len
@@ -80,12 +81,12 @@ module _ (c : Component) (t : Tables) (len : ℕ) (s : Stored c t len) (k : ℕ)
       go true = byte-le d f r e (p .0 - 1) (omega arith) (omega arith)
       go false = byte-le d f r e (p .0) (omega arith) (omega arith)
 
-  pub asked-row : (d : Pass) → Fit c t d k → InRow P d k p → class P d p ≡ some cls → (levelOf c t d p ≤ 63) × There d (c .stride) (reads (widthAt (c .plane) cls)) p len
+  pub asked-row : (d : Pass) → Fit c t d k → InRow P d k p → class P d p ≡ some cls → (levelOf c t d p ≤ 63) × There d (c .stride) (reads (widthOf (c .plane) cls)) p len
   asked-row d f r e =
       (level-le d f r e, subst (λ (x : ℕ). There d (c .stride) x p len) (reads-is (eqb (c .plane) 0) cls) (there d f r e))
 
 pub asked : (c : Call) (l : Limits) (m : Lent) (n : ℕ) → number c m ≡ 0 → Filtered c n → (p : Piece) (cls : ℕ)
     → InRow (planeAt c l m n) (callPass c) (c .row) p → class (planeAt c l m n) (callPass c) p ≡ some cls
-    → (pieceLevel c l m n (callPass c) p ≤ 63) × There (callPass c) (strideOf c n) (reads (widthAt n cls)) p (length (samples m n))
+    → (pieceLevel c l m n (callPass c) p ≤ 63) × There (callPass c) (strideOf c n) (reads (widthOf n cls)) p (length (samples m n))
 asked c l m n e f p cls r is =
     let g = ready c l m e f in asked-row (componentOf c n) (tablesOf c l m) (length (samples m n)) (g .stored) (c .row) p cls (callPass c) (g .fit) r is

@@ -17,14 +17,14 @@ use Rattle.line.specs.Rule.{rule}
 use Rattle.line.specs.Width.{reads}
 use Rattle.limits.specs.declared.LimitAnswer.{LimitAnswer}
 use Rattle.limits.specs.Limits.{tableOf, noTable, limitsOf}
-use Rattle.walk.specs.Walk.{thresholds, visit}
+use Rattle.walk.specs.Walk.{thresholds, visit, widthOf}
 use Rattle.walk.proofs.WidthsThresholds.{width}
 use Rattle.walk.proofs.Laws as walk
 use Rattle.filter.proofs.UnitActs.{act-visit}
 use Rattle.checks.specs.declared.Call.{Call}
 use Rattle.checks.specs.Call.{Lent, strideOf}
 use Rattle.apply.specs.Apply.{componentOf, Limits, limits, tablesOf, planeAt}
-use Rattle.standard_planes.specs.Piece.{limitsIn, pieceLevel, widthAt, There, Standard}
+use Rattle.standard_planes.specs.Piece.{limitsIn, pieceLevel, There, Standard}
 use Rattle.standard_planes.proofs.Lines.{piece-standard}
 
 -- the limit table of an accepted answer
@@ -43,7 +43,7 @@ module _ (c : Call) (l : Limits) (m : Lent) (n : ℕ) (d : Pass) (p : Piece) (s 
 
   -- the piece at its level
   at-level : (cls : ℕ) → class (planeAt c l m n) d p ≡ some cls → act (planeAt c l m n) d p s
-      ≡ cond (eqb level 0) s (pieceAt (lineStep d (strideOf c n)) (sampleStep d (strideOf c n)) (rule (widthAt n cls) (thresholds (c .depth) (l .e) (l .i) level))
+      ≡ cond (eqb level 0) s (pieceAt (lineStep d (strideOf c n)) (sampleStep d (strideOf c n)) (rule (widthOf n cls) (thresholds (c .depth) (l .e) (l .i) level))
       (ix d (strideOf c n) (4 * p .1) (4 * p .0)) s)
   unfolding visit
   at-level cls e = act-visit (componentOf c n) (tablesOf c l m) d p cls e s
@@ -61,13 +61,13 @@ module _ (c : Call) (l : Limits) (m : Lent) (n : ℕ) (d : Pass) (p : Piece) (s 
     bounds-are = ap (λ (x : Limits). thresholds (c .depth) (x .e) (x .i) level) e ∙ walk.promises .standard (c .depth) sharp level small
 
     rule-is : act (planeAt c l m n) d p s
-        ≡ pieceAt (lineStep d (strideOf c n)) (sampleStep d (strideOf c n)) (rule (widthAt n cls) (bounds (c .depth) sharp level)) (ix d (strideOf c n) (4 * p .1) (4 * p .0)) s
+        ≡ pieceAt (lineStep d (strideOf c n)) (sampleStep d (strideOf c n)) (rule (widthOf n cls) (bounds (c .depth) sharp level)) (ix d (strideOf c n) (4 * p .1) (4 * p .0)) s
     rule-is =
         at-level cls is ∙ rw (ne-eqb level 0 some-level)
-        (ap (λ t. pieceAt (lineStep d (strideOf c n)) (sampleStep d (strideOf c n)) (rule (widthAt n cls) t) (ix d (strideOf c n) (4 * p .1) (4 * p .0)) s) bounds-are)
+        (ap (λ t. pieceAt (lineStep d (strideOf c n)) (sampleStep d (strideOf c n)) (rule (widthOf n cls) t) (ix d (strideOf c n) (4 * p .1) (4 * p .0)) s) bounds-are)
 
-    pub piece-is : There d (strideOf c n) (reads (widthAt n cls)) p (length s)
-        → Standard d (strideOf c n) (widthAt n cls) (bounds (c .depth) sharp level) p s (act (planeAt c l m n) d p s)
+    pub piece-is : There d (strideOf c n) (reads (widthOf n cls)) p (length s)
+        → Standard d (strideOf c n) (widthOf n cls) (bounds (c .depth) sharp level) p s (act (planeAt c l m n) d p s)
     piece-is ok =
-        subst⁻¹ (λ (r : List ℕ). Standard d (strideOf c n) (widthAt n cls) (bounds (c .depth) sharp level) p s r) rule-is
+        subst⁻¹ (λ (r : List ℕ). Standard d (strideOf c n) (widthOf n cls) (bounds (c .depth) sharp level) p s r) rule-is
         (piece-standard d (strideOf c n) (width (eqb n 0) cls) (bounds (c .depth) sharp level) p (length s) ok s refl)

@@ -4,13 +4,13 @@ use native.Mathlib.Decide.{ℕ-discrete}
 use native.Mathlib.Omega.{arith}
 use mathlib.Core.List.{List, [], _∷_}
 use mathlib.Core.Logic.{_⊎_, inl, inr, by-cases, ⊎-elim}
-use mathlib.Core.Option.{Option, some, none}
 use mathlib.Core.Path.{_≡_, refl, sym, ap, _∙_, subst}
 use lib.ListN.{length, getD}
 use lib.Seq.{ext-getD}
 use Rattle.loops.specs.Run.{run}
 use Rattle.plane.specs.Line.{Pass, Piece}
 use Rattle.plane.specs.Plane.{Plane, class, act}
+use Rattle.plane.proofs.Pieces.{some-or-none}
 use Rattle.standard.specs.declared.Bounds.{Bounds}
 use Rattle.line.specs.Width.{Within, reads}
 use Rattle.frames.specs.Calls.{Frame}
@@ -50,21 +50,17 @@ module _ {d : Pass} {S len : ℕ} {b : Bounds} {p : Piece} {s t r : List ℕ} (T
   one-list : t ≡ r
   one-list = ext-getD 0 t r (T .long ∙ sym (R .long)) (λ j _. same j)
 
-area : (o : Option ℕ) → ((c : ℕ) × (o ≡ some c)) ⊎ (o ≡ none)
-area (some c) = inl (c, refl)
-area none = inr refl
-
 module _ {sharp : ℕ} {f : Frame} {n : ℕ} {P : Plane} {d : Pass} {p : Piece} {s : List ℕ} where
   filters-one : {t r : List ℕ} → Filters sharp f n P d p s t → Filters sharp f n P d p s r → t ≡ r
   filters-one T R =
       ⊎-elim
       (λ x. by-cases (ℕ-discrete (frameLevel f n d p) 0) (λ z. T .no-level z ∙ sym (R .no-level z)) (λ z. one-list (T .lines (x .0) (x .1) z) (R .lines (x .0) (x .1) z)))
-      (λ e. T .no-piece e ∙ sym (R .no-piece e)) (area (class P d p))
+      (λ e. T .no-piece e ∙ sym (R .no-piece e)) (some-or-none (class P d p))
 
   filters-long : {t : List ℕ} → Filters sharp f n P d p s t → length t ≡ length s
   filters-long T =
       ⊎-elim (λ x. by-cases (ℕ-discrete (frameLevel f n d p) 0) (λ z. ap length (T .no-level z)) (λ z. T .lines (x .0) (x .1) z .long))
-      (λ e. ap length (T .no-piece e)) (area (class P d p))
+      (λ e. ap length (T .no-piece e)) (some-or-none (class P d p))
 
 -- ---- a plane whose units are filtered so
 

@@ -19,7 +19,8 @@ use Rattle.checks.specs.Call.{strideOf, Filtered}
 use Rattle.apply.specs.Apply.{planeAt}
 use Rattle.order.specs.Demand3.{Order}
 use Rattle.frames.specs.Calls.{Frame, lentOf, after, sbRows, BoundariesKept}
-use Rattle.standard_planes.specs.Piece.{limitsIn, pieceLevel, widthAt, Standard}
+use Rattle.walk.specs.Walk.{widthOf}
+use Rattle.standard_planes.specs.Piece.{limitsIn, pieceLevel, Standard}
 
 pub record Sharp (sharp : ℕ) (f : Frame) : Type 0 where
   pub accepted : limitsOf sharp .number ≡ 0
@@ -34,7 +35,7 @@ module _ (sharp : ℕ) (f : Frame) (n : ℕ) (P : Plane) (d : Pass) where
     pub no-piece : class P d p ≡ none → t ≡ s
     pub no-level : frameLevel f n d p ≡ 0 → t ≡ s
     pub lines : (cls : ℕ) → class P d p ≡ some cls → ¬ (frameLevel f n d p ≡ 0)
-        → Standard d (strideOf (f .head) n) (widthAt n cls) (bounds (f .head .depth) sharp (frameLevel f n d p)) p s t
+        → Standard d (strideOf (f .head) n) (widthOf n cls) (bounds (f .head .depth) sharp (frameLevel f n d p)) p s t
 
   abbrev pub Steps : List Piece → List ℕ → List ℕ → Type 0
   Steps [] s t = t ≡ s

@@ -1,7 +1,6 @@
 -- One edge piece as the standard filters it. Places of a line as in the standard's Masks: q0 at 8, p0 at 7.
 --   limitsIn a              e and i of an answer of `limits`
 --   pieceLevel              the level used at a piece of plane n
---   widthAt n cls           the width of a class in plane n
 --   sampleAt d S p i k      the index of place k of line i of the piece at p
 --   pieceLine d S p i s     line i of it, in the list s
 --   There d S n p size      n places a side of its four lines are in a list of that size
@@ -9,14 +8,12 @@
 use mathlib.Core.List.{List}
 use mathlib.Core.Path.{_≡_}
 use Prim.Native.Nat.{ℕ, _+_, _-_, _*_, _≤_, _<_}
-use lib.Dec.{eqb}
 use lib.ListN.{length, getD}
 use Rattle.plane.specs.Line.{Pass, Piece, ix, Room}
 use Rattle.standard.specs.Line.{filtered}
 use Rattle.standard.specs.declared.Bounds.{Bounds}
 use Rattle.line.specs.Width.{Within, reads}
 use Rattle.limits.specs.declared.LimitAnswer.{LimitAnswer}
-use Rattle.walk.specs.Walk.{lenOf}
 use Rattle.filter.specs.Filter.{levelOf}
 use Rattle.checks.specs.declared.Call.{Call}
 use Rattle.checks.specs.Call.{Lent}
@@ -27,9 +24,6 @@ limitsIn a = record { e = a .table .e; i = a .table .i }
 
 abbrev pub pieceLevel : Call → Limits → Lent → ℕ → Pass → Piece → ℕ
 pieceLevel c l m n = levelOf (componentOf c n) (tablesOf c l m)
-
-abbrev pub widthAt : ℕ → ℕ → ℕ
-widthAt n = lenOf (eqb n 0)
 
 abbrev pub sampleAt : Pass → ℕ → Piece → ℕ → ℕ → ℕ
 sampleAt d S p i k = ix d S (4 * p .1 + i) (4 * p .0 + k - 8)

@@ -23,7 +23,8 @@ use Rattle.block.specs.declared.Block.{Block}
 use Rattle.block.specs.Block as block
 use Rattle.record.specs.Record.{intraOf, interOf, RecordAnswer}
 use Rattle.record.specs.Recorded.{Seen}
-use Rattle.standard_planes.specs.Piece.{limitsIn, pieceLevel, widthAt, There, Standard}
+use Rattle.walk.specs.Walk.{widthOf}
+use Rattle.standard_planes.specs.Piece.{limitsIn, pieceLevel, There, Standard}
 use Rattle.standard_planes.specs.Frame.{Sharp, ByStandard}
 use Rattle.standard_planes.specs.Level.{Segment, Referred, Level}
 
@@ -35,13 +36,13 @@ pub record Promises : Type 0 where
   pub piece : (sharp : ℕ) (a : LimitAnswer) → a ≡ limitsOf sharp → a .number ≡ 0 → (c : Call) (m : Lent) (n : ℕ) (d : Pass) (p : Piece) (cls : ℕ) (s : List ℕ)
       → class (planeAt c (limitsIn a) m n) d p ≡ some cls
       → ¬ (pieceLevel c (limitsIn a) m n d p ≡ 0) → pieceLevel c (limitsIn a) m n d p ≤ 63
-      → There d (strideOf c n) (reads (widthAt n cls)) p (length s)
-      → Standard d (strideOf c n) (widthAt n cls) (bounds (c .depth) sharp (pieceLevel c (limitsIn a) m n d p)) p s (act (planeAt c (limitsIn a) m n) d p s)
+      → There d (strideOf c n) (reads (widthOf n cls)) p (length s)
+      → Standard d (strideOf c n) (widthOf n cls) (bounds (c .depth) sharp (pieceLevel c (limitsIn a) m n d p)) p s (act (planeAt c (limitsIn a) m n) d p s)
   -- so is every edge piece of an accepted call, in any list as long as its plane's
   pub call : (sharp : ℕ) (a : LimitAnswer) → a ≡ limitsOf sharp → a .number ≡ 0 → (c : Call) (m : Lent) (n : ℕ) → number c m ≡ 0 → Filtered c n
       → (p : Piece) (cls : ℕ) (s : List ℕ) → InRow (planeAt c (limitsIn a) m n) (callPass c) (c .row) p → class (planeAt c (limitsIn a) m n) (callPass c) p ≡ some cls
       → length s ≡ length (samples m n) → ¬ (pieceLevel c (limitsIn a) m n (callPass c) p ≡ 0)
-      → Standard (callPass c) (strideOf c n) (widthAt n cls) (bounds (c .depth) sharp (pieceLevel c (limitsIn a) m n (callPass c) p)) p s
+      → Standard (callPass c) (strideOf c n) (widthOf n cls) (bounds (c .depth) sharp (pieceLevel c (limitsIn a) m n (callPass c) p)) p s
       (act (planeAt c (limitsIn a) m n) (callPass c) p s)
   -- and so are the samples that all calls of a frame leave, plane by plane
   pub luma-frame : (sharp : ℕ) (f : Frame) → Sharp sharp f → (s : Three (List ℕ)) → Accepted f s → ByStandard sharp f s 0 (planes f .luma) (λ t. t .luma)

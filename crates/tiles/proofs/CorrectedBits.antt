@@ -14,7 +14,7 @@ use Rattle.loops.specs.Run.{All}
 use Rattle.bits.specs.Mark.{isSet}
 use Rattle.plane.specs.Line.{Pass, columns, rows, Piece, other, passOf}
 use Rattle.edges.specs.Edges.{Grid, unitsOf, classes, edgeBit}
-use Rattle.edges.proofs.Bits.{edge-bit-inj, kinds-apart}
+use Rattle.edges.proofs.Bits.{edge-bit-inj, luma-chroma-apart}
 use Rattle.correct.specs.declared.Start.{Start}
 use Rattle.correct.specs.Start as start
 use Rattle.correct.specs.Start.{gridAt, begin, first, Inside}
@@ -54,9 +54,9 @@ module _ (r : Start) (context context-uv m n : List ℕ) (A : CorrectAnswer r co
   clash : (a b : Bool) (d : Pass) (q p : Piece) (k c : ℕ) → p .0 < unitsOf (gridAt r a) d → p .1 < unitsOf (gridAt r a) (other d) → c < classes (gridAt r a)
       → k < classes (gridAt r b) → CorrectedUnit r b q → (passOf (r .rowwise) ≡ d → CorrectedUnit r a p → ⊥) → bitAt r b q k ≡ edgeBit (gridAt r a) d p c → ⊥
   clash true false d q p k c px py hc hk u free z =
-      kinds-apart (gridAt r true) (gridAt r false) (proper r true) (proper r false) refl refl d (passOf (r .rowwise)) p q c k hc hk (sym z)
+      luma-chroma-apart (gridAt r true) (gridAt r false) (proper r true) (proper r false) refl refl d (passOf (r .rowwise)) p q c k hc hk (sym z)
   clash false true d q p k c px py hc hk u free z =
-      kinds-apart (gridAt r true) (gridAt r false) (proper r true) (proper r false) refl refl (passOf (r .rowwise)) d q p k c hk hc z
+      luma-chroma-apart (gridAt r true) (gridAt r false) (proper r true) (proper r false) refl refl (passOf (r .rowwise)) d q p k c hk hc z
   clash true true d q p k c px py hc hk u free z =
       same-plane true (passOf (r .rowwise)) d q p k c refl (omega (arith, u .at, across-in r true in-frame)) (omega (arith, u .to, end-in r true in-frame)) px py hk hc u free z
   clash false false d q p k c px py hc hk u free z =

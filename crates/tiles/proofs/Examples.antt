@@ -4,10 +4,10 @@ use mathlib.Core.List.{[], _∷_, List·Memᴰ, List·Memᴰ·head, List·Memᴰ
 use mathlib.Core.Logic.{inl, inr, by-cases}
 use mathlib.Core.Option.{some}
 use mathlib.Core.Path.{_≡_, refl, sym, ap, _∙_, subst}
-use Prim.Native.Nat.{ℕ, zero, suc, _+_, _-_, _%_, _<_}
+use Prim.Native.Nat.{ℕ, _+_, _-_, _%_, _<_}
 use native.Mathlib.Decide.{decLt}
 use native.Mathlib.Omega.{arith}
-use lib.ListN.{getD, replicate}
+use lib.ListN.{getD, getD-replicate}
 use borrow.Author.Tests.{lt-ltb, le-ltb}
 use Rattle.bits.proofs.Marks.{none-set}
 use Rattle.loops.proofs.ReadApart.{all-at}
@@ -95,11 +95,6 @@ one-tiled x n y h pos =
       every = λ u j a b c d. (_, List·Memᴰ·head refl, record { line = record { first = omega arith; last = omega arith }; first = omega arith; last = omega arith });
     }
 
-same-at : (k n i : ℕ) → i < n → getD (replicate n k) i 0 ≡ k
-same-at k zero i h = absurd (omega arith)
-same-at k (suc n) zero h = refl
-same-at k (suc n) (suc i) h = same-at k n i (omega arith)
-
 -- ---- the blocks are legal, and seen as they are
 
 luma-legal : (x t u : ℕ) → x % 16 ≡ 0 → Legal decoded 0 (coded (call x t u .block))
@@ -176,8 +171,8 @@ luma-first : (d : Pass) → InTile decoded 0 (lumaGrid 20 2) d (turned d (T 16 2
 unfolding bw4 bh4 Num_4x4_Blocks_Wide Num_4x4_Blocks_High
 luma-first =
     elim [
-      | columns ↦ record { run = went; most = λ n. omega (arith, luma-low n); begins = λ j _ h. same-at 2 2 j h; order = (tt, tt); tiled = one-tiled 0 16 0 2 (omega arith) }
-      | rows ↦ record { run = went; most = λ n. omega (arith, luma-low n); begins = λ j _ h. same-at 2 20 j (omega arith); order = (tt, tt); tiled = one-tiled 0 2 0 16 (omega arith) }
+      | columns ↦ record { run = went; most = λ n. omega (arith, luma-low n); begins = λ j _ h. getD-replicate 2 j 2 0 h; order = (tt, tt); tiled = one-tiled 0 16 0 2 (omega arith) }
+      | rows ↦ record { run = went; most = λ n. omega (arith, luma-low n); begins = λ j _ h. getD-replicate 20 j 2 0 (omega arith); order = (tt, tt); tiled = one-tiled 0 2 0 16 (omega arith) }
     ]
   where
     went : Run decoded 0 (lumaGrid 20 2) (lumaSeen (call 0 1 0) clear ∷ []) (lumaState clear) (lumaState between)
@@ -191,8 +186,8 @@ luma-second : (d : Pass) → InTile decoded 0 (lumaGrid 20 2) d (turned d (R 16 
 unfolding bw4 bh4 Num_4x4_Blocks_Wide Num_4x4_Blocks_High
 luma-second =
     elim [
-      | columns ↦ record { run = went; most = λ n. omega (arith, luma-low n); begins = λ j _ h. same-at 2 2 j h; order = (tt, tt); tiled = one-tiled 16 4 0 2 (omega arith) }
-      | rows ↦ record { run = went; most = λ n. omega (arith, luma-low n); begins = λ j _ h. same-at 2 20 j h; order = (tt, tt); tiled = one-tiled 0 2 16 4 (omega arith) }
+      | columns ↦ record { run = went; most = λ n. omega (arith, luma-low n); begins = λ j _ h. getD-replicate 2 j 2 0 h; order = (tt, tt); tiled = one-tiled 16 4 0 2 (omega arith) }
+      | rows ↦ record { run = went; most = λ n. omega (arith, luma-low n); begins = λ j _ h. getD-replicate 20 j 2 0 h; order = (tt, tt); tiled = one-tiled 0 2 16 4 (omega arith) }
     ]
   where
     went : Run decoded 0 (lumaGrid 20 2) (lumaSeen (call 16 4 3) (fresh between) ∷ []) (lumaState (fresh between)) (lumaState after)
@@ -247,8 +242,8 @@ chroma-first : (d : Pass) → InTile decoded 1 (chromaGrid 1 1 20 2) d (turned d
 unfolding cbw4 cbh4 Num_4x4_Blocks_Wide Num_4x4_Blocks_High
 chroma-first =
     elim [
-      | columns ↦ record { run = went; most = λ n. omega (arith, chroma-low n); begins = λ j _ h. same-at 1 1 j h; order = (tt, tt); tiled = one-tiled 0 8 0 1 (omega arith) }
-      | rows ↦ record { run = went; most = λ n. omega (arith, chroma-low n); begins = λ j _ h. same-at 1 10 j (omega arith); order = (tt, tt); tiled = one-tiled 0 1 0 8 (omega arith) }
+      | columns ↦ record { run = went; most = λ n. omega (arith, chroma-low n); begins = λ j _ h. getD-replicate 1 j 1 0 h; order = (tt, tt); tiled = one-tiled 0 8 0 1 (omega arith) }
+      | rows ↦ record { run = went; most = λ n. omega (arith, chroma-low n); begins = λ j _ h. getD-replicate 10 j 1 0 (omega arith); order = (tt, tt); tiled = one-tiled 0 1 0 8 (omega arith) }
     ]
   where
     went : Run decoded 1 (chromaGrid 1 1 20 2) (chromaSeen (call 0 1 0) clear ∷ []) (chromaState clear) (chromaState between)
@@ -262,8 +257,8 @@ chroma-second : (d : Pass) → InTile decoded 1 (chromaGrid 1 1 20 2) d (turned 
 unfolding cbw4 cbh4 Num_4x4_Blocks_Wide Num_4x4_Blocks_High
 chroma-second =
     elim [
-      | columns ↦ record { run = went; most = λ n. omega (arith, chroma-low n); begins = λ j _ h. same-at 1 1 j h; order = (tt, tt); tiled = one-tiled 8 2 0 1 (omega arith) }
-      | rows ↦ record { run = went; most = λ n. omega (arith, chroma-low n); begins = λ j _ h. same-at 1 10 j h; order = (tt, tt); tiled = one-tiled 0 1 8 2 (omega arith) }
+      | columns ↦ record { run = went; most = λ n. omega (arith, chroma-low n); begins = λ j _ h. getD-replicate 1 j 1 0 h; order = (tt, tt); tiled = one-tiled 8 2 0 1 (omega arith) }
+      | rows ↦ record { run = went; most = λ n. omega (arith, chroma-low n); begins = λ j _ h. getD-replicate 10 j 1 0 h; order = (tt, tt); tiled = one-tiled 0 1 8 2 (omega arith) }
     ]
   where
     went : Run decoded 1 (chromaGrid 1 1 20 2) (chromaSeen (call 16 4 3) (fresh between) ∷ []) (chromaState (fresh between)) (chromaState after)

@@ -4,7 +4,7 @@ use mathlib.Core.Path.{_≡_, refl, sym, ap, _∙_}
 use mathlib.Core.Bool.{Bool, true, false, cond, not}
 use mathlib.Core.Logic.{_≢_, by-cases}
 use mathlib.Core.List.{List}
-use Prim.Native.Nat.{ℕ, zero, suc, _+_, _-_, _*_, _/_, _%_, _^_, _≤_, _<_}
+use Prim.Native.Nat.{ℕ, _+_, _-_, _*_, _/_, _%_, _^_, _≤_, _<_}
 use native.Mathlib.Decide.{decLt}
 use native.Mathlib.Nat.{zero-mul, mod-eq-of-lt, div-eq-of-lt, le-div-iff-mul-le, mul-le-mul-right, add-mul}
 use native.Mathlib.Omega.{arith}
@@ -23,7 +23,7 @@ use Rattle.piece.specs.Samples.{PieceUnder}
 use Rattle.view.specs.Level.{levelUsed}
 use Rattle.walk.specs.declared.UnitLine.{UnitLine}
 use Rattle.walk.specs.Walk.{highest, lenIn, setIn, lenAt, levelAt, indexAt, visit, visitAt, walked}
-use Rattle.walk.specs.Ready.{Ready, Walkable, InRange}
+use Rattle.walk.specs.Ready.{Walkable, InRange}
 use Rattle.walk.proofs.WidthsThresholds.{width}
 use Rattle.walk.proofs.Ranges.{next-below}
 

@@ -1,4 +1,4 @@
--- What the leaves answer: a test of one bit is a class, each class of either kind of plane has a width, and thresholds are equal field by field.
+-- What the leaves answer: a test of one bit is a class, each class of luma and of chroma has a width, and thresholds are equal field by field.
 use mathlib.Core.Path.{_≡_, refl, ap, _∙_}
 use mathlib.Core.Bool.{Bool, true, false}
 use mathlib.Core.Logic.{_≢_}

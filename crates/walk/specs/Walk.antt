@@ -3,6 +3,7 @@
 --   highest m₁ m₂ n              the highest class set at place n
 --   lumaLen c, chromaLen c       the width of a class
 --   lenOf luma c                 that of a luma plane or of a chroma plane
+--   widthOf plane c              that of a plane by its number
 --   lenIn classes c              that of a plane with so many classes: luma has 3, chroma 2
 --   setIn u                      the set places of a line of units
 --   lenAt, indexAt u n           the width and the index of q0 at place n
@@ -47,6 +48,9 @@ chromaLen (suc c) = 6
 
 abbrev pub lenOf : Bool → ℕ → ℕ
 lenOf luma c = cond luma (lumaLen c) (chromaLen c)
+
+abbrev pub widthOf : ℕ → ℕ → ℕ
+widthOf plane = lenOf (eqb plane 0)
 
 abbrev pub lenIn : ℕ → ℕ → ℕ
 lenIn classes = lenOf (ltb 2 classes)

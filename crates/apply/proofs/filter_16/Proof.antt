@@ -1,14 +1,11 @@
 -- `filter_16` meets its contract: refused, or each plane done.
-use mathlib.Core.Path.{_≡_, sym, subst, _∙_}
-use mathlib.Core.Bool.{true}
-use Prim.Native.Nat.{ℕ}
+use mathlib.Core.Path.{_≡_, sym, _∙_}
 use borrow.Author.Needs.{needs}
 use denote.Ref.{now}
-use Rattle.filter.specs.Filter.{tables}
 use Rattle.checks.specs.Call.{lent, luma}
 use Rattle.checks.specs.Tests.{number}
 use Rattle.checks.proofs.Accepted.{filtered-u, filtered-v}
-use Rattle.apply.specs.Apply.{limits, Ready16}
+use Rattle.apply.specs.Apply.{limits}
 use Rattle.apply.proofs.ReadyPlanes.{ready16}
 use Rattle.apply.proofs.Answers.{refusal, work}
 use Rattle.apply.proofs.filter_16.Statement.{statement}

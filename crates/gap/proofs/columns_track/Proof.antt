@@ -67,13 +67,13 @@ columns-walk-requires c κs =
 returns : tie.Need-returns
 returns c =
     let a = c .before .before .before .before .before .before .before .before .args in
-    let rec = c .before .before .before .before .before .before .records-along .ensures in
+    let along = c .before .before .before .before .before .before .records-along .ensures in
     let l = c .before .before .before .before .record-row .ensures in
     let b = c .before .before .before .record-start .ensures
-    ∙ (λ i. 640 * (l i * rec i) + passStart (a .luma) columns) in
+    ∙ (λ i. 640 * (l i * along i) + passStart (a .luma) columns) in
     c .columns-walk .ensures
     ∙ (λ i. track (columnWords (a .masks .now) (a .luma) (a .sb4 .0 / 16) (b i + c .before .before .first-half .ensures i) (32 / 2 ^ a .ss))
-    (c .before .before .before .before .before .chroma-units .ensures i) (rec i * (32 / 2 ^ a .ss)))
+    (c .before .before .before .before .before .chroma-units .ensures i) (along i * (32 / 2 ^ a .ss)))
 
 pub columns-track-spec : {M : Type 1} → statement M
 columns-track-spec =

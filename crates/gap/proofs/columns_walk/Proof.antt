@@ -11,10 +11,10 @@ use Rattle.gap.proofs.columns_walk.Statement.{statement}
 use Rattle.gap.proofs.columns_walk.Tie as tie
 
 abbrev Inv-loop : tie.InvT-loop
-Inv-loop masks luma halves base ss width records side t₀ g₀ t rec = (rec ≤ records) × (t ≡ track (columnWords masks luma halves base (32 / 2 ^ ss)) width (rec * (32 / 2 ^ ss)))
+Inv-loop masks luma halves base ss width records side t₀ rec₀ t rec = (rec ≤ records) × (t ≡ track (columnWords masks luma halves base (32 / 2 ^ ss)) width (rec * (32 / 2 ^ ss)))
 
 abbrev μ-loop : tie.MeasureT-loop
-μ-loop masks luma halves base ss width records side t₀ g₀ t rec = records - rec
+μ-loop masks luma halves base ss width records side t₀ rec₀ t rec = records - rec
 
 shr-side : tie.Need-shr-side Inv-loop μ-loop
 shr-side c = search needs

@@ -10,11 +10,11 @@ use Rattle.gap.proofs.rows.Statement.{statement}
 use Rattle.gap.proofs.rows.Tie as tie
 
 abbrev Inv-loop : tie.InvT-loop
-Inv-loop masks luma ss-hor ss-ver w4 h4 sb4 k records gap₀ out₀ g₀ gap out rec = (rec ≤ records)
+Inv-loop masks luma ss-hor ss-ver w4 h4 sb4 k records gap₀ out₀ rec₀ gap out rec = (rec ≤ records)
     × (gap ≡ gapUpTo (gridOf luma ss-hor ss-ver (w4 .0) (h4 .0)) masks (sb4 .0) k rec) × (out ≡ outUpTo (gridOf luma ss-hor ss-ver (w4 .0) (h4 .0)) masks (sb4 .0) k rec)
 
 abbrev μ-loop : tie.MeasureT-loop
-μ-loop masks luma ss-hor ss-ver w4 h4 sb4 k records gap₀ out₀ g₀ gap out rec = records - rec
+μ-loop masks luma ss-hor ss-ver w4 h4 sb4 k records gap₀ out₀ rec₀ gap out rec = records - rec
 
 records-along-requires : tie.Need-records-along-requires Inv-loop μ-loop
 records-along-requires c κs = search needs

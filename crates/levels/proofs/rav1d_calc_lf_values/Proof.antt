@@ -1,4 +1,4 @@
--- `rav1d_calc_lf_values` meets its contract: the kinds are stored from the front, and what lies behind the counter is as it was.
+-- `rav1d_calc_lf_values` meets its contract: the areas are stored from the front, and what lies behind the counter is as it was.
 use mathlib.Core.List.{_++_}
 use mathlib.Core.Path.{_≡_, refl, sym, _∙_}
 use Prim.Native.Nat.{_-_, _*_, _≤_}

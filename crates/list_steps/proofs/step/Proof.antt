@@ -1,4 +1,4 @@
--- After a refusal nothing changes; else the line is counted, and each kind of line does what its own function ensures.
+-- After a refusal nothing changes; else the line is counted, and a frame, a level or a block line does what its own function ensures.
 use mathlib.Core.Path.{ap}
 use denote.Ref.{now}
 use Rattle.list_steps.specs.Steps.{Kept, keptOf}

@@ -1,7 +1,6 @@
 -- The length stays at each turn, so each word is stored inside.
 use borrow.Author.Needs.{needs}
-use native.Mathlib.Omega.{arith}
-use lib.ListN.{length, length-set}
+use lib.ListN.{length}
 use mathlib.Core.Path.{_≡_}
 use Prim.Native.Nat.{_-_, _≤_}
 use Rattle.wire.proofs.put_u16s.Statement.{statement}

@@ -1,4 +1,4 @@
--- `clear_edge` meets its contract, by the kind of plane.
+-- `clear_edge` meets its contract, in luma and in chroma.
 use native.Mathlib.Omega.{arith}
 use borrow.Author.Tests.{not-true, not-false}
 use borrow.Author.Needs.{needs}

@@ -4,7 +4,7 @@ use Prim.Native.Nat.{_-_, _≤_}
 use native.Mathlib.Omega.{arith}
 use lib.ListN.{length}
 use borrow.Author.Needs.{needs}
-use Rattle.correct.proofs.Lines.{near, room, line-none, line-step}
+use Rattle.correct.proofs.Lines.{near, room, line-none, line-more}
 use Rattle.plane.specs.Line.{passOf}
 use Rattle.correct.specs.Correct.{correctLine, gridIn}
 use Rattle.correct.proofs.edge.correct_line.Statement.{statement}
@@ -52,7 +52,7 @@ loop-again c =
       omega arith,
       c .before .before .correct-edge .kept .0
           ∙ c₈ .loop .inv .1,
-      line-step _ _ _ _ _ _ _ _ _ _ (c₈ .loop .inv .2) (c₅ .edge-bit .ensures (c₁₁ .args .l .h4 .0)) (c .before .before .correct-edge .ensures),
+      line-more _ _ _ _ _ _ _ _ _ _ (c₈ .loop .inv .2) (c₅ .edge-bit .ensures (c₁₁ .args .l .h4 .0)) (c .before .before .correct-edge .ensures),
     )
 
 same-length : tie.Need-same-length Inv-loop μ-loop

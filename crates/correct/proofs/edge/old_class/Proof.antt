@@ -1,4 +1,4 @@
--- `old_class` meets its contract, by the kind of plane.
+-- `old_class` meets its contract, in luma and in chroma.
 use Prim.Native.Nat.{_+_, _*_}
 use native.Mathlib.Omega.{arith}
 use denote.Ref.{now}

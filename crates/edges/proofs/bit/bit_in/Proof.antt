@@ -1,4 +1,4 @@
--- `bit_in` meets its contract, by the kind of plane.
+-- `bit_in` meets its contract, in luma and in chroma.
 use native.Mathlib.Omega.{arith}
 use Rattle.edges.proofs.EdgeBits.{sides}
 use Rattle.edges.proofs.bit.bit_in.Statement.{statement}

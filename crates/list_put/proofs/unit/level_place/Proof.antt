@@ -4,7 +4,7 @@ use native.Mathlib.Omega.{arith}
 use Prim.Native.Nat.{_+_, _<_}
 use mir.Val.{boolByte}
 use Rattle.plane.specs.Line.{passOf}
-use Rattle.list_put.proofs.Lengths.{pass-lt}
+use Rattle.units.proofs.Places.{pass-lt}
 use Rattle.list_put.proofs.Units.{level-small, pass-no, luma-area, chroma-area}
 use Rattle.list_put.proofs.unit.level_place.Statement.{statement}
 use Rattle.list_put.proofs.unit.level_place.Tie as tie

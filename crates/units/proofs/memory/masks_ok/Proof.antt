@@ -1,6 +1,5 @@
 -- A frame has at most 128 records each way.
 use mathlib.Core.Path.{ap₂}
-use mathlib.Core.Bool.{Bool}
 use Prim.Native.Nat.{ℕ, _*_}
 use borrow.Author.Needs.{needs}
 use native.Mathlib.Omega.{arith}
