@@ -12,8 +12,7 @@ ghost use Rattle.walk.specs.Promises.{Promises};
 use standard::Bounds;
 
 // At place n, q0 of the first of the four lines is at index q + n * (4 * line_step), the lines line_step apart and a line's samples sample_step; the unit's
-// level byte is at at + n * along, and that of the unit before the edge back earlier. The masks are those of classes 0, 1, 2; the plane has that many
-// classes: 3 in luma, 2 in chroma.
+// level byte is at at + n * along, and that of the unit before the edge back earlier. The masks are those of classes 0, 1, 2; classes is 3 in luma, 2 in chroma.
 pub struct UnitLine {
     pub q: usize,
     pub line_step: usize,
