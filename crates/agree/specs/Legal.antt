@@ -2,15 +2,15 @@
 --   Coded                the block: its luma place, its size, skip and intra
 --   lumaWidth, lumaHeight  its sides in luma units
 --   left, top            its place in a plane, in units of the plane
---   blockWidth, blockHeight           its sides there
+--   blockWidth, blockHeight   its sides there
 --   rowAt y, colAt x     the luma place at which 7.14.1 visits the unit (x, y) of the block
 --   PlacedSide ss n at   a block of n luma units at `at` has its place in the plane
 --   Legal D plane C      the frame D holds the block C, which has the plane
 --   classOf plane n      the class of a transform's side
 --   sideOf pass t        the side of a transform across the pass
 --   Shows D plane C B    what is seen of C in the plane is recorded as B
---   Tells plane pass t k     k is the class of the transform t
---   Sized D plane C w h t tx     what is seen has the transforms tx, parts of t, which fits in the block
+--   Tells plane pass t k   k is the class of the transform t
+--   Sized D plane C w h t tx   what is seen has the transforms tx, parts of t, which fits in the block
 -- Of a stream's chroma: the unit belongs to the block that covers its odd luma unit (row | sy, col | sx), and of several small blocks only that
 -- one, the last, has a chroma pair (HasChroma, 5.11.5).
 use mathlib.Core.Path.{_≡_}

@@ -1,17 +1,20 @@
 -- A block to record, document 01, "Recording": its sizes, what of it is seen, and the memory that is lent for it.
 --   w4, h4                    the frame, in luma units
---   blockWidth, blockHeight                the block, in luma units
---   ss-hor, ss-ver                  ss_hor and ss_ver of the frame's layout
+--   blockWidth, blockHeight   the block, in luma units
+--   ss-hor, ss-ver            ss_hor and ss_ver of the frame's layout
 --   bw4, bh4                  the visible size, in luma units: the block cut at w4 and h4
 --   chromaSide                in chroma units: of all units from u on, what n of them come to, both rounded up
 --   cbw4, cbh4                the visible size, in chroma units
 --   seesLuma, seesChroma      units are recorded in the plane
 --   Lent, lent                the lent memory
+--   cx, cy                    the place, in chroma units
+--   atBlock b m               what is lent of the frame's memory m: contexts that begin at the block
 --   Sides                     what the sizes ask: a frame's sides, a block's code
 use mathlib.Core.Bool.{Bool, _&&_}
 use mathlib.Core.List.{List}
 use Prim.Native.Nat.{ℕ, _-_, _<_, _≤_, min}
 use lib.Dec.{ltb}
+use lib.ListN.{drop}
 use Rattle.standard.specs.Sizes.{Num_4x4_Blocks_Wide, Num_4x4_Blocks_High}
 use Rattle.units.specs.Units.{unitsOf, chromaUnit, chromaUnits}
 use Rattle.units.specs.Layout.{ssHor, ssVer}
@@ -67,6 +70,16 @@ pub record Lent : Type 0 where
 abbrev pub lent : List ℕ → List ℕ → List ℕ → List ℕ → List ℕ → List ℕ → Lent
 lent levels masks above left above-uv left-uv =
     record { levels = levels; masks = masks; above = above; left = left; above-uv = above-uv; left-uv = left-uv }
+
+abbrev pub cx : Block → ℕ
+cx b = chromaUnit (ss-hor b) (b .x .0)
+
+abbrev pub cy : Block → ℕ
+cy b = chromaUnit (ss-ver b) (b .y .0)
+
+abbrev pub atBlock : Block → Lent → Lent
+atBlock b m =
+    lent (m .levels) (m .masks) (drop (b .x .0) (m .above)) (drop (b .y .0) (m .left)) (drop (cx b) (m .above-uv)) (drop (cy b) (m .left-uv))
 
 abbrev pub Sides : Block → Type 0
 Sides b = (b .width .0 ≤ 16384) × (b .height .0 ≤ 16384) × (b .size < 22)

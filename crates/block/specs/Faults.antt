@@ -1,7 +1,7 @@
 -- What the numbers 4 to 7 refuse, in document 01's words.
 --   Multiple u n                 the place u is a multiple of n
 --   ShapeFault                   4
---   CodeFault, PlaceFault, TxFault, LargestFault, ReferenceFault     the five of 5, and BlockFault, any of them
+--   CodeFault, PlaceFault, TxFault, LargestFault, ReferenceFault   the five of 5, and BlockFault, any of them
 --   ContextFault                 of one context: n units are recorded along it, `most` is its range
 --   ContextsFault                6
 --   LengthFault                  7

@@ -2,12 +2,12 @@
 --   shapeBad              4: layout, frame size, a chroma pair at 4:0:0
 --   codeBad               5: a code above its range; the chroma transform's counts only with a chroma pair
 --   placeBad              5: not a multiple of the block's own sides, or past the frame
---   lumaTxBad, chromaTxBad, txBad     5: a transform wider or higher than the block in its plane
+--   lumaTxBad, chromaTxBad, txBad   5: a transform wider or higher than the block in its plane
 --   maxTxBad              5: of an inter block, neither the largest transform nor 4x4
 --   refBad                5: of an inter block, a reference above 7
 --   blockBad              any of 5 but codeBad
 --   contextBad n most c   the context c is shorter than n, or has a value above most among them
---   lumaContextsBad, chromaContextsBad, contextsBad     6, in a plane in which units are recorded, and in either
+--   lumaContextsBad, chromaContextsBad, contextsBad   6, in a plane in which units are recorded, and in either
 --   lengthBad             7: levels, their level-stride, masks
 --   number                the number of the first of them
 use mathlib.Core.Bool.{Bool, cond, not, _&&_, _||_}

@@ -16,7 +16,7 @@ use Rattle.edges.specs.Edges.{Grid, lumaGrid, chromaGrid}
 use Rattle.decomp.proofs.UnitsOfTransform.{txAt-same}
 use Rattle.mask_edges.specs.Recording.{intraBlock, interBlock}
 use Rattle.block.specs.declared.Block.{Block}
-use Rattle.block.specs.Block.{w4, h4, blockWidth, blockHeight, ss-hor, ss-ver, bw4, bh4, cbw4, cbh4, seesLuma, seesChroma, Lent}
+use Rattle.block.specs.Block.{w4, h4, blockWidth, blockHeight, ss-hor, ss-ver, bw4, bh4, cbw4, cbh4, seesLuma, seesChroma, Lent, atBlock}
 use Rattle.record.specs.Record.{Fitting}
 use Rattle.record.specs.Recorded.{Stored}
 use Rattle.record.proofs.Answers as record-calls
@@ -25,7 +25,7 @@ use Rattle.record.proofs.SoundBlocks.{fitting}
 use Rattle.covering.specs.Front.{CoversUnit}
 use Rattle.covering.specs.Standard.{Lies}
 use Rattle.covering.specs.Cover.{owns, visibleSide, partOf, sees}
-use Rattle.drawn.specs.Calls.{atBlock, RecordCall, Records, coded, lumaSeen, lumaState, chromaSeen, chromaState}
+use Rattle.drawn.specs.Calls.{RecordCall, Records, coded, lumaSeen, lumaState, chromaSeen, chromaState}
 use Rattle.drawn.specs.Run.{partIn, DrawsBlock, Unchanged, Tallies}
 use Rattle.drawn.proofs.Calls.{Shape, luma-shape, chroma-place-is}
 use Rattle.drawn.proofs.Theorems as drawn

@@ -1,5 +1,5 @@
 -- The blocks of a tile, recorded by a list of calls.
---   Calls level-stride l m n       the calls l answer 0, one after another, and lead from the memory m to n
+--   Calls level-stride l m n   the calls l answer 0, one after another, and lead from the memory m to n
 --   TileArea                 a tile of a frame, in luma units: the frame's w4 and h4, MiCols and MiRows, and the tile from x0 to x1 and from y0 to y1
 --   axisOf A sx sy d         the direction across the pass d, in a plane of subsampling sx and sy
 --   tileIn A sx sy d         the visible tile in the plane, as the pass sees it
@@ -7,7 +7,7 @@
 --   blockPart d b, blockParts  a block in luma units, uncut, as the pass sees it; those of a list of calls
 --   Laid A sx sy l           the blocks of l cover the tile, in the standard's order as both passes see it
 --   LumaLegal D A q          the call's block is legal in luma, where some unit of it is seen
---   ChromaLegal D plane A sx sy q     and in chroma, which it has exactly if some odd luma unit of the plane's lies in it (HasChroma)
+--   ChromaLegal D plane A sx sy q   and in chroma, which it has exactly if some odd luma unit of the plane's lies in it (HasChroma)
 --   LumaLong, ChromaLong     the contexts of a memory reach along the frame
 --   TileDrawn                the tile's blocks that a plane sees lead from the state s to t in both passes, and each of its visible units lies in one of them
 use mathlib.Core.Bool.{true, _&&_}

@@ -1,8 +1,6 @@
 // The faults of the numbers.
 use crate::Call;
 use gap::Both;
-use units::LumaUnit;
-use units::Sample;
 use units::frame::frame_ok;
 use units::frame::stored_side;
 use units::frame::superblock_ok;

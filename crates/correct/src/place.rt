@@ -12,7 +12,7 @@ use units::layout::plane_ss_ver;
 use units::least;
 use units::luma_units;
 ghost use mathlib.Core.Path.{_≡_};
-ghost use Rattle.correct.specs.Start.{gridAt, begin, across, first, end, lineOf, inside, corrects, Shaped, Inside};
+ghost use Rattle.correct.specs.Start.{begin, across, first, end, lineOf, inside, corrects, Shaped, Inside};
 
 fn begin(t: Start) -> usize
     ensures { λ r. ⌜ r ≡ begin t ⌝ }

@@ -14,14 +14,14 @@ use Rattle.edges.specs.Edges.{unitsOf, classes, edgeBit}
 use Rattle.mask_edges.specs.Recording.{chromaBits}
 use Rattle.mask_edges.specs.Recording as recording
 use Rattle.block.specs.declared.Block.{Block}
-use Rattle.block.specs.Block.{ss-hor, ss-ver, bw4, bh4, cbw4, cbh4, seesLuma, seesChroma, Lent}
+use Rattle.block.specs.Block.{ss-hor, ss-ver, bw4, bh4, cbw4, cbh4, seesLuma, seesChroma, Lent, atBlock}
 use Rattle.record.specs.Recorded.{edgeOf, inFrame, lumaBlock, chromaBlock, chromaEdge, lumaEdge, Stored}
 use Rattle.record.proofs.Answers as record-calls
 use Rattle.record.proofs.SoundBlocks.{fitting}
 use Rattle.record.specs.Record.{Fitting}
 use Rattle.agree.proofs.Marked.{no-unit}
 use Rattle.drawn.specs.Run.{contextIn, Unchanged}
-use Rattle.drawn.specs.Calls.{atBlock, RecordCall, Records, lumaState, chromaState, lumaUnits, chromaUnitsOf}
+use Rattle.drawn.specs.Calls.{RecordCall, Records, lumaState, chromaState, lumaUnits, chromaUnitsOf}
 use Rattle.drawn.proofs.Calls.{luma-shape, no-chroma}
 use Rattle.drawn.proofs.ChromaCalls.{no-luma}
 

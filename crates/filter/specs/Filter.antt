@@ -9,7 +9,7 @@
 --   changeAt t len lvl l     what a piece of a width does to a line at a level: nothing at level 0
 --   ruleOf c t d cls p       that of the piece at p
 --   planeOf c t              the plane
---   firstAcross, firstAlong, across, along, sweepOf     colsOf and rowsOf in one: in each record the units across the pass, at each the units along it
+--   firstAcross, firstAlong, across, along, sweepOf   colsOf and rowsOf in one: in each record the units across the pass, at each the units along it
 use mathlib.Core.Bool.{cond}
 use mathlib.Core.List.{List, []}
 use Prim.Native.Nat.{ℕ, suc, _+_, _-_, _*_}

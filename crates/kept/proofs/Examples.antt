@@ -19,12 +19,12 @@ use Rattle.units.specs.Sizes.{log2}
 use Rattle.edges.specs.Edges.{edgeBit}
 use Rattle.mask_edges.proofs.BlockPasses.{chroma-low}
 use Rattle.mask_edges.proofs.CellTables.{luma-low}
-use Rattle.block.specs.Block.{bw4, bh4, cbw4, cbh4, Lent}
+use Rattle.block.specs.Block.{bw4, bh4, cbw4, cbh4, Lent, atBlock}
 use Rattle.agree.specs.Legal.{Legal, Shows}
 use Rattle.agree.proofs.Theorems as agree
 use Rattle.covering.specs.Front.{Begins}
 use Rattle.covering.specs.Cover.{Axis, PlacedIn}
-use Rattle.drawn.specs.Calls.{atBlock, coded, lumaSeen, lumaState, lumaUnits, chromaSeen, chromaState, chromaUnitsOf}
+use Rattle.drawn.specs.Calls.{coded, lumaSeen, lumaState, lumaUnits, chromaSeen, chromaState, chromaUnitsOf}
 use Rattle.drawn.specs.Run.{contextIn, SeenBlock, Tallies, OneTile}
 use Rattle.blocks.specs.Laid as blocks
 use Rattle.blocks.specs.Laid.{Calls, tileIn, Laid, LumaLegal, ChromaLegal}

@@ -17,14 +17,14 @@ use Rattle.units.specs.Frame.{superblockOk}
 use Rattle.levels.specs.Levels.{LevelsIn, outOfRange, levelsNumber, byteAt}
 use Rattle.levels.proofs.Values.{level-small}
 use Rattle.block.specs.declared.Block.{Block}
-use Rattle.block.specs.Block.{w4, seesLuma, seesChroma, Lent}
+use Rattle.block.specs.Block.{w4, seesLuma, seesChroma, Lent, atBlock}
 use Rattle.block.specs.Tests.{shapeBad, codeBad, placeBad, txBad, maxTxBad, refBad, lumaContextsBad, chromaContextsBad, lengthBad, number}
 use Rattle.record.specs.Record.{on, fillRow, fillLevels, lumaLevels}
 use Rattle.list_fields.specs.Word.{Bytes}
 use Rattle.list_script.specs.declared.ScriptLine.{ScriptLine}
 use Rattle.list_script.specs.declared.ScriptLine.the-variants.{Frame, Level, Block as BlockLine, Form}
 use Rattle.list_steps.specs.declared.State.{State}
-use Rattle.list_steps.specs.Steps.{form, Kept, stateOf, counted, refusedBy, refused, sideOk, depthOk, frameNumber, framed, bases, levelled, blockOf, atBlock, stored, blocked, said, taken, stepOf}
+use Rattle.list_steps.specs.Steps.{form, Kept, stateOf, counted, refusedBy, refused, sideOk, depthOk, frameNumber, framed, bases, levelled, blockOf, stored, blocked, said, taken, stepOf}
 use Rattle.list_call.specs.Listing.{start, after}
 
 -- ---- bytes

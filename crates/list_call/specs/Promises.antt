@@ -17,7 +17,8 @@ use Rattle.record.specs.Recorded.{lumaEdge, chromaEdge}
 use Rattle.list_fields.specs.Fields.{without}
 use Rattle.list_script.specs.declared.ScriptLine.the-variants.{Block as BlockLine}
 use Rattle.list_text.specs.Text.{end}
-use Rattle.list_steps.specs.Steps.{Kept, said, blockOf, atBlock, stepOf}
+use Rattle.list_steps.specs.Steps.{Kept, said, blockOf, stepOf}
+use Rattle.block.specs.Block.{atBlock}
 use Rattle.list_call.specs.Listing.{linesOf, start, after, outputOf, room, ListAnswer, Left}
 
 abbrev pub ended : List (List ℕ) → List ℕ

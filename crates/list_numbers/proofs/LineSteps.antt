@@ -7,11 +7,11 @@ use borrow.Author.Tests.{eq-eqb, ne-eqb, eqb-true}
 use lib.Dec.{eqb}
 use Rattle.loops.specs.Table.{tabulate}
 use Rattle.levels.specs.Levels.{byteAt, levelsNumber}
-use Rattle.block.specs.Block.{w4}
+use Rattle.block.specs.Block.{w4, atBlock}
 use Rattle.block.specs.Tests.{number}
 use Rattle.list_script.specs.declared.ScriptLine.the-variants.{Frame, Level, Block, Form}
 use Rattle.list_steps.specs.declared.State.{State}
-use Rattle.list_steps.specs.Steps.{form, Kept, kept, stateOf, counted, said, frameNumber, framed, bases, levelled, blockOf, atBlock, blocked, taken, stepOf}
+use Rattle.list_steps.specs.Steps.{form, Kept, kept, stateOf, counted, said, frameNumber, framed, bases, levelled, blockOf, blocked, taken, stepOf}
 
 -- a test of the number n alone: what it chooses has the number n
 numbered : {A : Type 0} (f : A → ℕ) (n : ℕ) (x y : A) → f x ≡ 0 → f y ≡ n → f (cond (eqb n 0) x y) ≡ n

@@ -13,7 +13,7 @@ use Rattle.loops.proofs.Products.{prod-le}
 use Rattle.standard.specs.Sizes.{Tx_Wide, Tx_High}
 use Rattle.units.specs.Units.{chromaUnits}
 use Rattle.block.specs.declared.Block.{Block}
-use Rattle.block.specs.Block.{w4, h4, ss-hor, ss-ver, bw4, bh4, cbw4, cbh4, seesLuma, seesChroma, Lent}
+use Rattle.block.specs.Block.{w4, h4, ss-hor, ss-ver, bw4, bh4, cbw4, cbh4, seesLuma, seesChroma, Lent, cx, cy, atBlock}
 use Rattle.block.specs.Faults.{ContextFault, fewer, above-range, ContextsFault, above, left, above-uv, left-uv, LengthFault, stride-below, levels-short, masks-short}
 use Rattle.mask_edges.specs.Recording.{Contexts}
 use Rattle.mask_edges.specs.Recording as recording
@@ -22,7 +22,7 @@ use Rattle.record.specs.Recorded.{Stored, lumaBlock, chromaBlock}
 use Rattle.list_script.specs.declared.ScriptLine.{ScriptLine}
 use Rattle.list_script.specs.declared.ScriptLine.the-variants.{Frame, Level, Block as BlockLine, Form}
 use Rattle.list_steps.specs.declared.State.{State}
-use Rattle.list_steps.specs.Steps.{Kept, said, blockOf, cx, cy, atBlock, stepOf}
+use Rattle.list_steps.specs.Steps.{Kept, said, blockOf, stepOf}
 use Rattle.list_steps.specs.Promises.{Alike, Before}
 use Rattle.list_steps.proofs.Outcomes.{promises as steps}
 use Rattle.list_call.specs.Listing.{start}

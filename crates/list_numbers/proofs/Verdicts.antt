@@ -17,9 +17,10 @@ use Rattle.list_script.specs.declared.ScriptLine.the-variants.{Frame, Level, Bl
 use Rattle.list_script.specs.Promises.{Says}
 use Rattle.list_script.proofs.LinesSaid.{promises as scripts}
 use Rattle.list_steps.specs.declared.State.{State}
-use Rattle.list_steps.specs.Steps.{form, longest, Kept, said, bases, blockOf, atBlock, stepOf}
+use Rattle.list_steps.specs.Steps.{form, longest, Kept, said, bases, blockOf, stepOf}
 use Rattle.list_steps.specs.Promises.{Proper}
 use Rattle.list_steps.proofs.Outcomes.{promises as steps}
+use Rattle.block.specs.Block.{atBlock}
 use Rattle.list_numbers.specs.Faults.{At, InTurn, FormFault, too-long, no-line, out-of-turn, Refuses, Fault, Sound}
 use Rattle.list_numbers.proofs.LineSteps.{form-number, frame-late, frame-number, frame-state, level-late, level-number, level-state, level-values}
 use Rattle.list_numbers.proofs.LineSteps.{block-late, block-number, block-state, block-values}

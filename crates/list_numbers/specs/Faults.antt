@@ -2,7 +2,7 @@
 --   At ls j l          line j of the lines ls is the fields of l, parted by one space each
 --   InTurn l j         frame, level, blocks: l may be line j
 --   FormFault ls j     line j has `form`
---   DepthFault, ShapeFault, LevelFault     what 3 and 4 refuse of a frame line, and 2 of a level line
+--   DepthFault, ShapeFault, LevelFault   what 3 and 4 refuse of a frame line, and 2 of a level line
 --   Refuses f l n      what the number n refuses of the line l, where the frame line is f
 --   Fault ls j n       the number n refuses line j
 --   Sound ls j         line j has no fault

@@ -15,13 +15,13 @@ use Prim.Native.Nat.{ℕ, _+_, _<_, _≤_}
 use lib.ListN.{length, take}
 use Rattle.loops.specs.Exactly.{Exactly}
 use Rattle.levels.specs.Levels.{LevelsAnswer}
-use Rattle.block.specs.Block.{w4}
+use Rattle.block.specs.Block.{w4, atBlock}
 use Rattle.block.specs.Faults.{ContextsFault, LengthFault}
 use Rattle.list_fields.specs.Word.{Bytes}
 use Rattle.list_script.specs.declared.ScriptLine.the-variants.{Frame, Level}
 use Rattle.list_text.specs.Text.{refusedText, formText}
 use Rattle.list_edges.specs.Listed.{listText}
-use Rattle.list_steps.specs.Steps.{Kept, bases, blockOf, atBlock}
+use Rattle.list_steps.specs.Steps.{Kept, bases, blockOf}
 use Rattle.list_call.specs.Listing.{linesOf, start, after, heldIn, outputOf}
 use Rattle.list_numbers.specs.Faults.{At, FormFault, Fault, Sound}
 

@@ -3,9 +3,9 @@
 --   blockName b          of the block code b
 --   txName t             of the transform code t
 --   first n f            the least number below n that passes the test, n where none does
---   blockIn n, txIn n          the code whose name has the number n
---   blockCode w, txCode w      the code whose name is the word w; 22 and 19 where none is
---   frameWord, levelWord, blockWord, intraWord, noWord     `frame`, `level`, `block`, `I`, `-`
+--   blockIn n, txIn n    the code whose name has the number n
+--   blockCode w, txCode w   the code whose name is the word w; 22 and 19 where none is
+--   frameWord, levelWord, blockWord, intraWord, noWord   `frame`, `level`, `block`, `I`, `-`
 use mathlib.Core.Bool.{Bool, cond}
 use mathlib.Core.List.{List, [], _∷_, _++_}
 use Prim.Native.Nat.{ℕ, zero, suc, _*_}

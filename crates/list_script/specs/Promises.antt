@@ -1,7 +1,7 @@
 -- What a line is: what is printed of it, and what is promised of reading.
 --   Numeral f n      the field f is 1 to 9 digits of the value n
 --   Word f           the field f has a byte, and no space
---   Names n name w c     c is the code below n whose name is w, or n where w names none
+--   Names n name w c   c is the code below n whose name is w, or n where w names none
 --   Says fs l        the fields fs make the line l
 --   Reads s l        the bytes s are the fields of the line l, parted by one space each; or no line's, and l is Form
 --   printed l        a line as it is printed: no zeros in front, and the names of its sizes

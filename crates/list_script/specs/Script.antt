@@ -6,8 +6,8 @@
 --   numberAt s k      it as a number
 --   noNumbers s n     one of the n fields from field 1 on is no number
 --   noWords s         one of the three sizes is empty
---   chromaOf w, uvtxOf w     the flag and the code of the chroma transform's field
---   frameOf, levelOf, blockOf, sevenOf     a line of so many fields
+--   chromaOf w, uvtxOf w   the flag and the code of the chroma transform's field
+--   frameOf, levelOf, blockOf, sevenOf   a line of so many fields
 --   lineOf s          what the line s says
 use mathlib.Core.Bool.{Bool, cond, not, _||_}
 use mathlib.Core.List.{List, []}

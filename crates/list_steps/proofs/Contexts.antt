@@ -10,11 +10,11 @@ use borrow.Author.Tests.{eq-eqb, ne-eqb}
 use lib.ListN.{length, take, drop, drop-of-length-le, length-drop}
 use lib.Seq.{take-all}
 use Rattle.block.specs.declared.Block.{Block}
-use Rattle.block.specs.Block.{w4, Lent, lent}
+use Rattle.block.specs.Block.{w4, Lent, lent, cx, cy, atBlock}
 use Rattle.block.specs.Tests.{number}
 use Rattle.record.specs.Record.{lumaAbove, lumaLeft, chromaAbove, chromaLeft, RecordAnswer}
 use Rattle.list_steps.specs.declared.Carried.{Carried}
-use Rattle.list_steps.specs.Steps.{Kept, kept, withState, keptOf, refusedBy, cx, cy, atBlock, from, stored, blocked}
+use Rattle.list_steps.specs.Steps.{Kept, kept, withState, keptOf, refusedBy, from, stored, blocked}
 
 abbrev end : ℕ → List ℕ → List ℕ
 end i l = midOf i (64 - i) l

@@ -16,12 +16,12 @@ use Rattle.units.specs.Layout.{layoutOk}
 use Rattle.units.specs.Frame.{superblockOk}
 use Rattle.levels.specs.Levels.{byteAt, levelsNumber}
 use Rattle.block.specs.declared.Block.{Block}
-use Rattle.block.specs.Block.{w4, Lent}
+use Rattle.block.specs.Block.{w4, Lent, atBlock}
 use Rattle.block.specs.Tests.{number}
 use Rattle.record.specs.Recorded.{Stored}
 use Rattle.list_script.specs.declared.ScriptLine.{ScriptLine}
 use Rattle.list_script.specs.declared.ScriptLine.the-variants.{Frame, Level, Block as BlockLine, Form}
-use Rattle.list_steps.specs.Steps.{form, said, Kept, kept, stateOf, counted, refused, sideOk, depthOk, frameNumber, framed, bases, levelled, blockOf, atBlock, stored, blocked, taken, stepOf}
+use Rattle.list_steps.specs.Steps.{form, said, Kept, kept, stateOf, counted, refused, sideOk, depthOk, frameNumber, framed, bases, levelled, blockOf, stored, blocked, taken, stepOf}
 use Rattle.list_steps.specs.Promises.{Proper, Alike, Before, Promises}
 use Rattle.list_steps.proofs.Stores.{stored-is, stored-alike, stored-before}
 

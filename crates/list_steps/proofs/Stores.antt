@@ -8,12 +8,12 @@ use native.Mathlib.Omega.{arith}
 use lib.ListN.{length, take, drop, length-append, length-take, length-drop, take-append-drop, drop-of-length-le}
 use lib.Seq.{length-take-le, drop-at, take-at, take-all}
 use Rattle.block.specs.declared.Block.{Block}
-use Rattle.block.specs.Block.{w4, Lent, lent}
+use Rattle.block.specs.Block.{w4, Lent, lent, cx, cy, atBlock}
 use Rattle.block.specs.Tests.{number}
 use Rattle.record.specs.Record.{lumaLevels, chromaLevels, lumaMasks, chromaMasks, lumaAbove, lumaLeft, chromaAbove, chromaLeft}
 use Rattle.record.specs.Recorded.{Stored}
 use Rattle.record.proofs.Answers as recording
-use Rattle.list_steps.specs.Steps.{cx, cy, atBlock, stored}
+use Rattle.list_steps.specs.Steps.{stored}
 use Rattle.list_steps.specs.Promises.{Alike, Before}
 
 empty : (l : List ℕ) → length l ≡ 0 → l ≡ []

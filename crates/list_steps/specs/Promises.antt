@@ -10,11 +10,11 @@ use Prim.Native.Nat.{ℕ, _<_, _≤_}
 use lib.ListN.{length, take}
 use Rattle.units.specs.Layout.{layoutOk}
 use Rattle.block.specs.declared.Block.{Block}
-use Rattle.block.specs.Block.{w4, Lent}
+use Rattle.block.specs.Block.{w4, Lent, cx, cy, atBlock}
 use Rattle.record.specs.Recorded.{Stored}
 use Rattle.list_script.specs.declared.ScriptLine.the-variants.{Block as BlockLine}
 use Rattle.list_steps.specs.declared.State.{State}
-use Rattle.list_steps.specs.Steps.{Kept, said, blockOf, cx, cy, atBlock, stepOf}
+use Rattle.list_steps.specs.Steps.{Kept, said, blockOf, stepOf}
 
 pub record Proper (s : State) : Type 0 where
   pub width : 0 < s .phase → (1 ≤ s .width) × (s .width ≤ 256)

@@ -5,11 +5,10 @@
 --   withState, keptOf    what goes by value with another state; what is kept, of it and of the two lent lists
 --   stateOf, counted     a state of its fields; with one line more
 --   refusedBy, refused   the line is refused with the number n
---   sideOk, depthOk, frameNumber     of a frame line; sides are 1 to 256 samples
+--   sideOk, depthOk, frameNumber   of a frame line; sides are 1 to 256 samples
 --   framed               and after it
 --   bases, levelled      the level values' input, no delta and no segment; after a level line
---   blockOf, cx, cy      the block of a block line; its place in chroma units
---   atBlock              the memory lent for it, whose contexts begin at the block
+--   blockOf              the block of a block line
 --   from, stored         a list made anew from a place on; the memory once the block is recorded
 --   blocked              after a block line
 --   taken k l            after the line l, which k has counted
@@ -21,12 +20,11 @@ use lib.Dec.{eqb, leb, ltb}
 use lib.IntN.{pos}
 use lib.ListN.{length, take, drop, replicate}
 use Rattle.loops.specs.Table.{tabulate}
-use Rattle.units.specs.Units.{chromaUnit}
 use Rattle.units.specs.Layout.{layoutOk}
 use Rattle.units.specs.Frame.{superblockOk}
 use Rattle.levels.specs.Levels.{LevelsIn, levelsIn, levelsNumber, byteAt}
 use Rattle.block.specs.declared.Block.{Block}
-use Rattle.block.specs.Block.{w4, ss-hor, ss-ver, Lent, lent}
+use Rattle.block.specs.Block.{w4, Lent, lent, cx, cy, atBlock}
 use Rattle.block.specs.Tests.{number}
 use Rattle.record.specs.Record.{on, intraOf, lumaLevels, chromaLevels, lumaMasks, chromaMasks, lumaAbove, lumaLeft, chromaAbove, chromaLeft}
 use Rattle.list_script.specs.Script.{lineOf}
@@ -109,16 +107,6 @@ levelled k x =
 
 abbrev pub blockOf : State → ℕ → ℕ → ℕ → ℕ → ℕ → ℕ → Block
 blockOf s = intraOf (s .width) (s .height) (s .layout)
-
-abbrev pub cx : Block → ℕ
-cx b = chromaUnit (ss-hor b) (b .x .0)
-
-abbrev pub cy : Block → ℕ
-cy b = chromaUnit (ss-ver b) (b .y .0)
-
-abbrev pub atBlock : Block → Lent → Lent
-atBlock b m =
-    lent (m .levels) (m .masks) (drop (b .x .0) (m .above)) (drop (b .y .0) (m .left)) (drop (cx b) (m .above-uv)) (drop (cy b) (m .left-uv))
 
 -- l with what stands from `at` on made anew by f
 abbrev pub from : ℕ → (List ℕ → List ℕ) → List ℕ → List ℕ

@@ -15,7 +15,7 @@
 --   zeros                   4096 cells of 0
 --   tables ms t w4 h4       the tables of an inter block, from those
 --   wholeBy                 a test that no transform is split, of w4 by h4 units of transforms of w by h: of an inter block by the first mask m
---   oneMasks, intraMasks, interMasks, lumaMasks, chromaMasks     the masks that the recorders leave
+--   oneMasks, intraMasks, interMasks, lumaMasks, chromaMasks   the masks that the recorders leave
 --   lastRow, lastColumn     the classes of an inter block's last row and column; aboveOf, leftOf: those that the contexts take of a luma block
 --   Held p len, Told        what the helpers ask: the block lies in the record; the cells hold classes, and steps that go on
 use mathlib.Core.Path.{_≡_}

@@ -11,7 +11,7 @@
 --   Contexts            the two contexts after the block
 --   Room                what the recorders ask: the block lies in its record, and the contexts reach as far; ss 0 for luma
 --   chromaBits ss-hor ss-ver  the bit of a chroma edge (of luma: lumaBit)
---   intraBlock, interBlock, chromaBlock     the blocks that the three recorders take: of one transform t, or of those that tx_masks make
+--   intraBlock, interBlock, chromaBlock   the blocks that the three recorders take: of one transform t, or of those that tx_masks make
 --                       of t; inner edges of a skipped inter block do not count; a and l are the contexts above and left
 use mathlib.Core.Path.{_≡_}
 use mathlib.Core.Bool.{Bool, true, cond, not, _&&_, _||_}

@@ -6,7 +6,7 @@
 --   cbx4, cby4                     the chroma place of the block in its record
 --   lumaLevels, chromaLevels       the level bytes, in a plane in which units are recorded
 --   lumaMasks, chromaMasks         the masks
---   lumaAbove, lumaLeft, chromaAbove, chromaLeft     the contexts
+--   lumaAbove, lumaLeft, chromaAbove, chromaLeft   the contexts
 --   RecordAnswer                   number and memory after a call; tm are the tx_masks of an inter block
 --   Fitting b, Sound b             what the work behind the number asks of a block, for its masks, and for its levels too
 use mathlib.Core.Bool.{Bool, true, false, cond, not}

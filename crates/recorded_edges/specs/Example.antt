@@ -2,11 +2,11 @@
 --   frameWith width first before t   the standard's frame of `width` by 8 samples: blocks of 8x8 from unit `first` on, before it those of code `before` with transform t
 --   codedAt, blockAt                 the block at unit `first`, in the frame and of the call
 --   lentWith left                    clear masks, contexts above as a frame begins, and `left` on the left
---   Beside       document 01's example of a listing: 16 by 8 samples, a block at unit 2 beside one at unit 0, whose context tells 8x8. The edge between them is 8 wide
---   TileStart    72 by 8 samples, the block at unit 16, where a tile begins, and so do its contexts; before it blocks of 4x4. The edge is recorded with width 8, and its
+--   Beside                           document 01's example of a listing: 16 by 8 samples, a block at unit 2 beside one at unit 0, whose context tells 8x8. The edge between them is 8 wide
+--   TileStart                        72 by 8 samples, the block at unit 16, where a tile begins, and so do its contexts; before it blocks of 4x4. The edge is recorded with width 8, and its
 --                correction makes it 4
 --   frameUv, codedUv, blockUv, lentUv   32 by 16 samples at 4:2:0, blocks of 16x16 with chroma transforms of 8x8; the second, at unit 4, beside the first
---   InChroma     the edge between them is 6 wide in chroma
+--   InChroma                         the edge between them is 6 wide in chroma
 use mathlib.Core.Bool.{true, false, cond}
 use mathlib.Core.List.{List, [], _∷_}
 use mathlib.Core.Option.{some, none}

@@ -2,7 +2,7 @@
 --   someFrom        some number from a on, below b, passes a test
 --   levelHigh       a level byte is above 63
 --   levelsHigh      number 8 of one area: that of some unit in the frame, which has width by height of them, in the row's lines
---   lumaLevelsHigh, chromaLevelsHigh     that of luma, and of U or V, in a frame of w4 by h4 luma units and superblocks of sb4
+--   lumaLevelsHigh, chromaLevelsHigh   that of luma, and of U or V, in a frame of w4 by h4 luma units and superblocks of sb4
 --   sampleHigh      a sample is above max
 --   samplesHigh     number 9 of the samples: some sample of the stored width, in the row's stored lines, four to a unit
 use mathlib.Core.Bool.{Bool, _||_}

@@ -7,7 +7,7 @@ use units::over;
 ghost use mathlib.Core.Path.{_≡_};
 ghost use Prim.Native.Nat.{_+_, _-_, _*_, _/_, _%_, _^_, _<_, _≤_, min};
 ghost use lib.Dec.{ltb};
-ghost use lib.ListN.{length, getD};
+ghost use lib.ListN.{length};
 ghost use Rattle.bits.specs.Word.{orBelow};
 ghost use Rattle.plane.specs.Line.{passOf, passNo};
 ghost use Rattle.units.specs.Frame.{stored};

@@ -1,10 +1,10 @@
 -- What an accepted call leaves is what its contract says, so a computed number is all that is left to show of a call.
 use mathlib.Core.Path.{_≡_, refl, sym}
 use Prim.Native.Nat.{ℕ}
-use Rattle.block.specs.Block.{Lent}
+use Rattle.block.specs.Block.{Lent, atBlock}
 use Rattle.block.specs.Tests.{number}
 use Rattle.record.specs.Record.{lumaLevels, chromaLevels, lumaMasks, chromaMasks, lumaAbove, lumaLeft, chromaAbove, chromaLeft}
-use Rattle.drawn.specs.Calls.{atBlock, back, RecordCall, Records}
+use Rattle.drawn.specs.Calls.{back, RecordCall, Records}
 
 -- of what it is lent
 abbrev left : ℕ → RecordCall → Lent → Lent

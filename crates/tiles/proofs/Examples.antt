@@ -18,13 +18,13 @@ use Rattle.units.specs.Sizes.{log2}
 use Rattle.edges.specs.Edges.{unitsOf, lumaGrid, chromaGrid, edgeBit}
 use Rattle.mask_edges.proofs.BlockPasses.{chroma-low}
 use Rattle.mask_edges.proofs.CellTables.{luma-low}
-use Rattle.block.specs.Block.{bw4, bh4, cbw4, cbh4, Lent}
+use Rattle.block.specs.Block.{bw4, bh4, cbw4, cbh4, Lent, atBlock}
 use Rattle.correct.specs.Start.{across, first}
 use Rattle.agree.specs.Legal.{Legal, Shows}
 use Rattle.agree.proofs.Theorems as agree
 use Rattle.covering.specs.Front.{Tile, Tiled}
 use Rattle.covering.specs.Standard.{transformClass}
-use Rattle.drawn.specs.Calls.{atBlock, coded, lumaSeen, lumaState, chromaSeen, chromaState}
+use Rattle.drawn.specs.Calls.{coded, lumaSeen, lumaState, chromaSeen, chromaState}
 use Rattle.drawn.specs.Run as run
 use Rattle.drawn.specs.Run.{Run, InTile}
 use Rattle.drawn.proofs.Theorems as drawn

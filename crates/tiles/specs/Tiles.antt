@@ -13,7 +13,7 @@
 --   FixedOnce luma d p v l       one of l does, with the class v kept, and no other
 --   AtStarts D plane G ts l      the corrections l are those of a frame of tiles: each unit at a tile's start but unit 0 is corrected once, with the class of
 --                                the unit before it, and no other unit is
---   InTiles D plane G start ts l m n o     the masks o of a plane made so: from clear ones, m, over the tiles' blocks, n, and the corrections
+--   InTiles D plane G start ts l m n o   the masks o of a plane made so: from clear ones, m, over the tiles' blocks, n, and the corrections
 use mathlib.Core.Bool.{Bool, false, cond}
 use mathlib.Core.List.{List, [], _∷_, List·Memᴰ}
 use mathlib.Core.Logic.{_⊎_}

@@ -1,7 +1,7 @@
 -- Lent memory.
 --   levelAt level-stride x y area    the place of a level byte: area 0 luma columns, 1 luma rows, 2 U, 3 V, at the unit (x, y) of its plane
 --   levelsOk len level-stride w4 h4  a stride of w4 units at least, and 4 * stride * h4 bytes
---   planeOk len stride width height     a stride of the stored width at least, and stride * stored height samples
+--   planeOk len stride width height  a stride of the stored width at least, and stride * stored height samples
 --   masksOk len w4 h4                640 words for each record
 use mathlib.Core.Bool.{Bool, _&&_}
 use Prim.Native.Nat.{ℕ, _+_, _*_}

@@ -1,5 +1,4 @@
 // What the replay programs read and write: records of bytes, lent in part, and their numbers, low byte first.
-ghost use mathlib.Core.Path.{_≡_};
 ghost use Prim.Native.Nat.{_+_, _*_, _<_, _≤_};
 ghost use lib.ListN.{length};
 ghost use Rattle.io.specs.Counts.{Counts};
