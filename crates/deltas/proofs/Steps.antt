@@ -10,8 +10,9 @@ use lib.IntN.{ℤ, pos, negℤ, subℕ, _+ℤ_, +ℤ-comm, *ℤ-comm}
 use lib.Signed.{ltZ}
 use Rattle.standard.specs.Math.{Clip3}
 use Rattle.standard.specs.Level.{baseFilterLevel, lvlSeg, lvlDelta, shl, nShift}
-use Rattle.deltas.specs.Deltas.{on, outside}
+use Rattle.deltas.specs.Deltas.{outside}
 use Rattle.loops.proofs.Ints.{is-neg, is-pos, sub-eq, pos-sub, neg-pos, add-sub, plus-sub, times-sub, lt-sub}
+use Rattle.loops.specs.Flag.{on}
 
 -- ---- d below -n or above 63, of d = u - 128
 

@@ -1,19 +1,14 @@
--- Flags and signed deltas, as the calls are given them.
---   on flag         a flag is 0 or not 0
+-- Signed deltas, as the calls are given them.
 --   delta ds i      delta i of a list
 --   outside n d     d is outside -n..63, as a test
 --   Outside n d     and as a fact
-use mathlib.Core.Bool.{Bool, not, _||_}
+use mathlib.Core.Bool.{Bool, _||_}
 use mathlib.Core.List.{List}
 use mathlib.Core.Logic.{_⊎_}
 use Prim.Native.Nat.{ℕ}
-use lib.Dec.{eqb}
 use lib.IntN.{ℤ, pos, negℤ}
 use lib.ListN.{getD}
 use lib.Signed.{ltZ, _<ℤ_}
-
-abbrev pub on : ℕ → Bool
-on flag = not (eqb flag 0)
 
 abbrev pub delta : List ℤ → ℕ → ℤ
 delta ds i = getD ds i (pos 0)

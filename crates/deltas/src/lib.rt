@@ -8,7 +8,8 @@ ghost use lib.ListN.{length};
 ghost use Rattle.loops.specs.Any.{anyBelow};
 ghost use Rattle.standard.specs.Math.{Clip3};
 ghost use Rattle.standard.specs.Level.{baseFilterLevel, lvlSeg, lvlDelta, shl, nShift};
-ghost use Rattle.deltas.specs.Deltas.{on, delta, outside};
+ghost use Rattle.loops.specs.Flag.{on};
+ghost use Rattle.deltas.specs.Deltas.{delta, outside};
 
 fn biased(d: i8) -> u32
     ensures { λ r. ⌜ (subℕ r 128 ≡ d) × (r < 256) ⌝ }

@@ -13,9 +13,10 @@ use lib.Dec.{eqb}
 use lib.IntN.{ℤ, pos, negsuc, natAbs, subℕ, _+ℤ_, +ℤ-idr}
 use lib.ListN.{length, drop}
 use Rattle.loops.specs.Table.{tabulate}
+use Rattle.loops.specs.Flag.{on}
 use Rattle.standard.specs.Math.{Clip3}
 use Rattle.standard.specs.Level.{baseFilterLevel, lvlSeg, lvlDelta, filterLevel}
-use Rattle.deltas.specs.Deltas.{on, delta}
+use Rattle.deltas.specs.Deltas.{delta}
 use Rattle.levels.specs.Levels.{LevelsIn, baseAt, lfDelta, areaLevel, lumaOff, level, byteAt, written, levelsDone}
 use Rattle.levels.specs.Helpers.{stores, biasedLevel}
 use Rattle.levels.proofs.Fills.{stores-fill}

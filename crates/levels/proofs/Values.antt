@@ -13,9 +13,10 @@ use lib.ListN.{length, getD, drop, List·getD-append}
 use lib.Seq.{getD-append-add, getD-drop}
 use Rattle.loops.specs.Table.{tabulate}
 use Rattle.loops.proofs.Tables.{length-tabulate, getD-tabulate}
+use Rattle.loops.specs.Flag.{on}
 use Rattle.standard.specs.Math.{Clip3}
 use Rattle.standard.specs.Level.{baseFilterLevel, lvlSeg, lvlDelta, filterLevel}
-use Rattle.deltas.specs.Deltas.{on, delta}
+use Rattle.deltas.specs.Deltas.{delta}
 use Rattle.levels.specs.Levels.{LevelsIn, levelsIn, baseAt, lfDelta, areaLevel, lumaOff, level, byteAt, written, levelsDone}
 use Rattle.levels.specs.Promises.{Place, byte}
 

@@ -7,8 +7,9 @@ use Prim.Native.Nat.{ℕ, _+_, _/_, _%_}
 use lib.IntN.{ℤ, subℕ}
 use lib.ListN.{set}
 use Rattle.loops.specs.Run.{upTo}
+use Rattle.loops.specs.Flag.{on}
 use Rattle.standard.specs.Level.{filterLevel}
-use Rattle.deltas.specs.Deltas.{on, delta}
+use Rattle.deltas.specs.Deltas.{delta}
 
 unfoldable pub stores : (ℕ → ℕ) → ℕ → ℕ → List ℕ → List ℕ
 stores f a n l = upTo (λ j t. set t (a + j) (f j)) n l

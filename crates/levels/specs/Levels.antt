@@ -18,9 +18,10 @@ use lib.IntN.{ℤ}
 use lib.ListN.{getD, drop}
 use Rattle.loops.specs.Any.{anyBelow}
 use Rattle.loops.specs.Table.{tabulate}
+use Rattle.loops.specs.Flag.{on}
 use Rattle.standard.specs.Level.{filterLevel}
 use Rattle.units.specs.Layout.{layoutOk}
-use Rattle.deltas.specs.Deltas.{on, delta, outside}
+use Rattle.deltas.specs.Deltas.{delta, outside}
 
 pub record LevelsIn : Type 0 where
   -- loop_filter_level[ k ], by area

@@ -11,9 +11,10 @@ use Prim.Native.Nat.{ℕ, _+_, _*_, _<_, _≤_}
 use lib.IntN.{ℤ}
 use lib.ListN.{getD}
 use Rattle.loops.specs.Exactly.{Exactly}
+use Rattle.loops.specs.Flag.{on}
 use Rattle.standard.specs.Level.{filterLevel}
 use Rattle.units.specs.Layout.{Layout}
-use Rattle.deltas.specs.Deltas.{on, delta, Outside}
+use Rattle.deltas.specs.Deltas.{delta, Outside}
 use Rattle.levels.specs.Levels.{LevelsIn, levelsIn, baseAt, lfDelta, LevelsAnswer}
 
 pub data LevelFault (layout : ℕ) (x : LevelsIn) : Type 0 where

@@ -5,7 +5,7 @@ ghost use Prim.Native.Nat.{_+_, _*_, _/_, _%_, _<_, _≤_};
 ghost use lib.Dec.{eqb, ltb};
 ghost use lib.ListN.{getD, length};
 ghost use Rattle.loops.specs.Any.{anyBelow};
-ghost use Rattle.deltas.specs.Deltas.{on};
+ghost use Rattle.loops.specs.Flag.{on};
 ghost use Rattle.levels.specs.Levels.{levelsIn, outOfRange, areaLevel, lumaOff, levelsDone, LevelsAnswer};
 ghost use Rattle.levels.specs.Promises.{Promises};
 ghost use Rattle.levels.specs.Helpers.{stores, biasedLevel};

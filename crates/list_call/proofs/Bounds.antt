@@ -12,6 +12,7 @@ use Rattle.bits.proofs.Marks.{zero-at}
 use Rattle.loops.specs.Table.{tabulate}
 use Rattle.loops.proofs.Runs.{upTo-holds}
 use Rattle.loops.proofs.Tables.{length-tabulate, getD-tabulate}
+use Rattle.loops.specs.Flag.{on}
 use Rattle.units.specs.Layout.{layoutOk}
 use Rattle.units.specs.Frame.{superblockOk}
 use Rattle.levels.specs.Levels.{LevelsIn, outOfRange, levelsNumber, byteAt}
@@ -19,7 +20,7 @@ use Rattle.levels.proofs.Values.{level-small}
 use Rattle.block.specs.declared.Block.{Block}
 use Rattle.block.specs.Block.{w4, seesLuma, seesChroma, Lent, atBlock}
 use Rattle.block.specs.Tests.{shapeBad, codeBad, placeBad, txBad, maxTxBad, refBad, lumaContextsBad, chromaContextsBad, lengthBad, number}
-use Rattle.record.specs.Record.{on, fillRow, fillLevels, lumaLevels}
+use Rattle.record.specs.Record.{fillRow, fillLevels, lumaLevels}
 use Rattle.list_fields.specs.Word.{Bytes}
 use Rattle.list_script.specs.declared.ScriptLine.{ScriptLine}
 use Rattle.list_script.specs.declared.ScriptLine.the-variants.{Frame, Level, Block as BlockLine, Form}

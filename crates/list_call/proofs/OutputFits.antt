@@ -7,7 +7,6 @@ use native.Mathlib.Omega.{arith}
 use borrow.Author.Tests.{ltb-false}
 use lib.Dec.{eqb, ltb}
 use lib.ListN.{length}
-use Rattle.record.specs.Record.{on}
 use Rattle.list_decimal.specs.Decimal.{decimal}
 use Rattle.list_decimal.proofs.Numerals as decimal
 use Rattle.list_fields.specs.Word.{Bytes}
@@ -17,6 +16,7 @@ use Rattle.list_put.proofs.Lengths.{promises as lists}
 use Rattle.list_steps.specs.declared.State.{State}
 use Rattle.list_steps.specs.Steps.{form}
 use Rattle.list_steps.specs.Promises.{Proper}
+use Rattle.loops.specs.Flag.{on}
 use Rattle.list_call.specs.Listing.{linesOf, start, after, heldIn, textIn, outputOf, room}
 use Rattle.list_call.proofs.Bounds.{after-bounded, start-bounded}
 use Rattle.list_call.proofs.PartLeft.{left}

@@ -20,7 +20,6 @@ use lib.Dec.{eqb, leb, ltb}
 use lib.ListN.{length, drop, replicate}
 use Rattle.units.specs.Units.{unitsOf}
 use Rattle.block.specs.Block.{lent}
-use Rattle.record.specs.Record.{on}
 use Rattle.list_decimal.specs.Decimal.{pasted}
 use Rattle.list_fields.specs.Fields.{cut}
 use Rattle.list_text.specs.Text.{end, refusedText, formText, Put}
@@ -29,6 +28,7 @@ use Rattle.list_put.specs.Written.{heldOf}
 use Rattle.list_steps.specs.declared.State.{State}
 use Rattle.list_steps.specs.Steps.{form, Kept, stateOf, stepOf}
 use Rattle.list_steps.specs.Promises.{Proper}
+use Rattle.loops.specs.Flag.{on}
 
 abbrev pub push : ℕ → List (List ℕ) → List (List ℕ)
 push b [] = (b ∷ []) ∷ []

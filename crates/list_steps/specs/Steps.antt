@@ -20,13 +20,14 @@ use lib.Dec.{eqb, leb, ltb}
 use lib.IntN.{pos}
 use lib.ListN.{length, take, drop, replicate}
 use Rattle.loops.specs.Table.{tabulate}
+use Rattle.loops.specs.Flag.{on}
 use Rattle.units.specs.Layout.{layoutOk}
 use Rattle.units.specs.Frame.{superblockOk}
 use Rattle.levels.specs.Levels.{LevelsIn, levelsIn, levelsNumber, byteAt}
 use Rattle.block.specs.declared.Block.{Block}
 use Rattle.block.specs.Block.{w4, Lent, lent, cx, cy, atBlock}
 use Rattle.block.specs.Tests.{number}
-use Rattle.record.specs.Record.{on, intraOf, lumaLevels, chromaLevels, lumaMasks, chromaMasks, lumaAbove, lumaLeft, chromaAbove, chromaLeft}
+use Rattle.record.specs.Record.{intraOf, lumaLevels, chromaLevels, lumaMasks, chromaMasks, lumaAbove, lumaLeft, chromaAbove, chromaLeft}
 use Rattle.list_script.specs.Script.{lineOf}
 use Rattle.list_script.specs.declared.ScriptLine.{ScriptLine}
 use Rattle.list_script.specs.declared.ScriptLine.the-variants.{Frame, Level, Block as BlockLine, Form}

@@ -4,7 +4,7 @@ use mathlib.Core.Path.{_≡_, refl, sym, ap, ap₂, _∙_}
 use Prim.Native.Nat.{ℕ, _+_, _≤_, _<_, suc, _^_}
 use native.Mathlib.Numerals.{add-one}
 use native.Mathlib.Omega.{arith}
-use lib.ListN.{length, set, getD, take, drop, length-append, length-take, length-drop}
+use lib.ListN.{length, set, getD, take, drop, length-append, length-take}
 use lib.Seq.{paste, paste-suc, take-at, take-length, drop-drop, drop-append-add, set-split}
 use Rattle.list_decimal.specs.Decimal.{decimal, pasted}
 use Rattle.list_decimal.proofs.Numerals as decimal
@@ -13,9 +13,6 @@ use Rattle.list_text.specs.Text.{tab, end, fieldText, edgeText, totalTex
 
 front : (l : List ℕ) (at : ℕ) (s : List ℕ) → at ≤ length l → length (take at l ++ s) ≡ at + length s
 front l at s h = simp (length-append, length-take) (omega arith)
-
-pub length-pasted : (l : List ℕ) (at : ℕ) (s : List ℕ) → at + length s ≤ length l → length (pasted l at s) ≡ length l
-length-pasted l at s h = simp (length-append, length-take, length-drop) (omega arith)
 
 paste-then : (l : List ℕ) (at : ℕ) (s t : List ℕ) → at + length s ≤ length l → pasted (pasted l at s) (at + length s) t ≡ pasted l at (s ++ t)
 paste-then l at s t h =

@@ -19,9 +19,10 @@ use Rattle.block.specs.declared.Block.{Block}
 use Rattle.block.specs.Block.{w4, h4, bw4, bh4, cbw4, cbh4, seesLuma, seesChroma, Lent}
 use Rattle.block.specs.Tests.{contextBad, number}
 use Rattle.loops.proofs.Bools.{or-off}
+use Rattle.loops.specs.Flag.{on}
 use Rattle.block.proofs.TestsPassed.{coded, placed, sides}
 use Rattle.block.proofs.NoFault.{Passed, free}
-use Rattle.record.specs.Record.{on, Fitting, Sound}
+use Rattle.record.specs.Record.{Fitting, Sound}
 
 -- a flag as a number
 pub flag-low : (n : ℕ) → boolByte (on n) < 2

@@ -9,7 +9,7 @@
 --   lumaAbove, lumaLeft, chromaAbove, chromaLeft   the contexts
 --   RecordAnswer                   number and memory after a call; tm are the tx_masks of an inter block
 --   Fitting b, Sound b             what the work behind the number asks of a block, for its masks, and for its levels too
-use mathlib.Core.Bool.{Bool, true, false, cond, not}
+use mathlib.Core.Bool.{true, false, cond}
 use mathlib.Core.List.{List, _++_}
 use mathlib.Core.Logic.{_⊎_}
 use mathlib.Core.Path.{_≡_}
@@ -18,6 +18,7 @@ use lib.Dec.{eqb}
 use mir.Val.{boolByte}
 use lib.ListN.{getD, set, take, drop}
 use Rattle.loops.specs.Run.{upTo}
+use Rattle.loops.specs.Flag.{on}
 use Rattle.standard.specs.Sizes.{Tx_Wide, Tx_High, Max_Tx_Size_Rect}
 use Rattle.units.specs.Units.{chromaUnit}
 use Rattle.units.specs.Frame.{recordOf}
@@ -28,10 +29,6 @@ use Rattle.mask_edges.specs.Folds as folds
 use Rattle.block.specs.declared.Block.{Block}
 use Rattle.block.specs.Block.{w4, h4, blockWidth, blockHeight, ss-hor, ss-ver, bw4, bh4, cbw4, cbh4, seesLuma, seesChroma, Lent, Sides}
 use Rattle.block.specs.Tests.{number}
-
--- a flag of a call
-abbrev pub on : ℕ → Bool
-on n = not (eqb n 0)
 
 abbrev pub intraOf : ℕ → ℕ → ℕ → ℕ → ℕ → ℕ → ℕ → ℕ → ℕ → Block
 intraOf width height layout x y size tx chroma uvtx =

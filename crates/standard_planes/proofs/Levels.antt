@@ -15,9 +15,10 @@ use Rattle.levels.proofs.Answers as levels
 use Rattle.block.specs.declared.Block.{Block}
 use Rattle.block.specs.Block.{Lent}
 use Rattle.block.specs.Faults.{BlockFault, reference, reference-above}
-use Rattle.record.specs.Record.{on, intraOf, interOf, RecordAnswer}
+use Rattle.record.specs.Record.{intraOf, interOf, RecordAnswer}
 use Rattle.record.specs.Recorded.{Seen, luma, chroma}
 use Rattle.record.proofs.Answers as recording
+use Rattle.loops.specs.Flag.{on}
 use Rattle.standard_planes.specs.Level.{Segment, Referred, Level}
 
 -- ---- the block of a call

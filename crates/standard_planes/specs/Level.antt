@@ -9,9 +9,10 @@ use mathlib.Core.Path.{_≡_}
 use Prim.Native.Nat.{ℕ, _+_, _*_, _<_, _≤_}
 use lib.ListN.{getD}
 use Rattle.standard.specs.Level.{filterLevel}
-use Rattle.deltas.specs.Deltas.{on, delta}
+use Rattle.deltas.specs.Deltas.{delta}
 use Rattle.levels.specs.Levels.{LevelsIn, baseAt, lfDelta}
 use Rattle.block.specs.declared.Block.{Block}
+use Rattle.loops.specs.Flag.{on}
 
 pub record Segment (x : LevelsIn) (s : ℕ) (all values : List ℕ) : Type 0 where
   pub below : s < 8

@@ -10,7 +10,7 @@ use Rattle.loops.proofs.Tables.{each-at}
 use Rattle.loops.proofs.Products.{row-in}
 use Rattle.units.specs.Units.{unitsOf, chromaUnit, chromaUnits}
 use Rattle.units.specs.Layout.{ssHor, ssVer}
-use Rattle.units.specs.Frame.{stored, records, frameRecords, recordOf, superblocks}
+use Rattle.units.specs.Frame.{stored, records, superblocks}
 use Rattle.plane.specs.Line.{Pass, columns, rows, passNo}
 use Rattle.units.specs.Masks.{wordOf, unitWords, passStart, chromaWord, halfUnits, lumaBit, chromaBit}
 use Rattle.units.specs.Memory.{levelAt}
@@ -46,9 +46,6 @@ ss-hor-le layout = flag-le (eqb layout 444) 0 1 (omega arith) (omega arith)
 
 pub ss-ver-le : (layout : ℕ) → ssVer layout ≤ 1
 ss-ver-le layout = flag-le (eqb layout 420) 1 0 (omega arith) (omega arith)
-
-pub record-in : (w4 h4 x y : ℕ) → x < w4 → y < h4 → recordOf w4 x y < frameRecords w4 h4
-record-in w4 h4 x y p q = omega (arith, row-in (y / 32) (records h4) (records w4) (omega arith), mul-comm (records w4) (records h4))
 
 -- superblock k begins within n units
 pub superblock-in : (k n sb4 : ℕ) → 0 < sb4 → Exactly (k < superblocks n sb4) (k * sb4 < n)
