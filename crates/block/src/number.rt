@@ -1,4 +1,4 @@
-// The number of a block: of the faults, in their order, the first that it fails.
+// The number of a block: of the faults, in their order, the first that it has.
 use super::faults::block_bad;
 use super::faults::code_bad;
 use super::faults::contexts_bad;

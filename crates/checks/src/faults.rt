@@ -1,4 +1,4 @@
-// The faults of the numbers.
+// The faults that the numbers of the calls that filter refuse.
 use crate::Call;
 use gap::Both;
 use units::frame::frame_ok;

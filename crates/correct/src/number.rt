@@ -1,4 +1,4 @@
-// The number of a correction: of the faults, in their order, the first that fails.
+// The number of a correction: of the faults, in their order, the first that it has.
 use crate::Start;
 use crate::place::corrects;
 use crate::place::inside;

@@ -24,7 +24,7 @@ use Rattle.checks.proofs.Chain.{marked-number}
 use Rattle.example_frame.specs.Data.{call, bits, masks, levels, quarters, samplesOf, lent}
 use Rattle.example_frame.proofs.Starts.{start, start-tells}
 
--- ---- no sample is too height
+-- ---- no sample is too high
 
 cond-le : (b : Bool) (x y n : ℕ) → x ≤ n → y ≤ n → cond b x y ≤ n
 cond-le true x y n p q = p

@@ -13,7 +13,7 @@ ghost use Rattle.filter.specs.Ready.{Stored, Fit, Under};
 ghost use Rattle.filter.specs.Lines.{recordSweep, Inner};
 ghost use Rattle.filter.specs.Promises.{Promises};
 
-// One plane of a frame: 0 luma, 1 U, 2 V, with its own subsampling, 0 for luma; its stride in samples, and the level_stride of the level bytes in units.
+// One plane of a frame: 0 luma, 1 U, 2 V, with its own subsampling, 0 for luma; its stride in samples, and level_stride, that of the level bytes, in units.
 pub struct Component {
     pub plane: usize,
     pub ss_hor: usize,

@@ -1,6 +1,6 @@
 -- The level values of a frame: document 01, "Limits and levels", by 7.14.5 of the standard.
 --   LevelsIn, levelsIn         what the values are made of
---   baseAt, lfDelta            the base level and the lf delta of a area
+--   baseAt, lfDelta            the base level and the lf delta of an area
 --   areaLevel x s k r m        the value of segment s, area k, reference r and mode m
 --   lumaOff, level x s k r m   and 0 where both luma bases are 0
 --   byteAt x i                 the value of byte i

@@ -1,6 +1,6 @@
 -- What document 01 promises of `levels`, as theorems on its contract alone.
 --   LevelFault layout x     what number 2 refuses
---   Place x s k q m         a segment that is written, a area, a reference and a mode
+--   Place x s k q m         a segment that is written, an area, a reference and a mode
 --   byte l s k q m          the byte at [segment][area][reference][mode]
 --   Promised                of one answer
 --   Promises                of all

@@ -1,5 +1,5 @@
 -- What is written of the list.
---   heldOf            what is listed from, the level-stride being the width
+--   heldOf            what is listed from, the level bytes' stride being the frame's width
 --   heldIn, gridAt    of a pass of a plane, and the units of that plane
 --   lineIn, planeIn   the edges at line y of a pass; of both passes of a plane
 --   Wrote             the edges l were written after what w tells, and r tells the end of them

@@ -29,7 +29,7 @@ fn step(x: usize, tx: usize) -> usize
     if tx == 1 { x / 8 } else { x / 16 }
 }
 
-// Some blocks stand so height that their edges fail the limit test.
+// Some blocks stand so high that their edges fail the limit test.
 fn lift(bx: usize, by: usize) -> usize
     requires { ⌜ (bx < 8) × (by < 8) ⌝ }
     ensures { λ r. ⌜ r ≤ 60 ⌝ }

@@ -1,4 +1,4 @@
--- The rows passed are done, each as width as the width counts.
+-- The rows passed are done, each as wide as the width counts.
 use mathlib.Core.Path.{_≡_, refl, _∙_}
 use Prim.Native.Nat.{_-_, _≤_}
 use native.Mathlib.Omega.{arith}
