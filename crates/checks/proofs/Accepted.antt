@@ -65,7 +65,7 @@ module _ (c : Call) (m : Lent) (e : number c m ≡ 0) where
   module _ {plane : ℕ} (f : Filtered c plane) where
     pub accepted-levels : ¬ LevelHigh (m .levels) (c .«level_stride») (areaOf c plane) (unitsOf (gridOf c plane) columns) (unitsOf (gridOf c plane) rows)
         (sbUnits (gridOf c plane) (sb4 c)) (passNo (callPass c)) (c .row)
-    accepted-levels h = clear-9 .1 .0 (record { inside = accepted-row; plane = plane; filtered = f; height = h })
+    accepted-levels h = clear-9 .1 .0 (record { inside = accepted-row; plane = plane; filtered = f; too-high = h })
 
     no-sample-fault : ¬ SampleFault c plane (samples m plane)
     no-sample-fault s = clear-9 .0 (record { plane = plane; filtered = f; fault = s })

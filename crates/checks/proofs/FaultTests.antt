@@ -136,8 +136,8 @@ module _ (c : Call) where
     reflects-bytes m =
         reflects-as
         (record {
-          only = λ t. record { inside = t .0; plane = t .1 .0; filtered = t .1 .1; height = t .1 .2 };
-          always = λ f. (f .inside, (f .plane, f .filtered, f .height));
+          only = λ t. record { inside = t .0; plane = t .1 .0; filtered = t .1 .1; too-high = t .1 .2 };
+          always = λ f. (f .inside, (f .plane, f .filtered, f .too-high));
         })
         (reflects-and reflects-inside
         (reflects-planes

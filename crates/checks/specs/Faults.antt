@@ -51,7 +51,7 @@ pub record LevelByteFault (c : Call) (m : Lent) : Type 0 where
   pub inside : InFrame c
   pub plane : ℕ
   pub filtered : Filtered c plane
-  pub height : LevelHigh (m .levels) (c .«level_stride») (areaOf c plane) (unitsOf (gridOf c plane) columns) (unitsOf (gridOf c plane) rows)
+  pub too-high : LevelHigh (m .levels) (c .«level_stride») (areaOf c plane) (unitsOf (gridOf c plane) columns) (unitsOf (gridOf c plane) rows)
       (sbUnits (gridOf c plane) (sb4 c)) (passNo (callPass c)) (c .row)
 
 pub data SampleFault (c : Call) (plane : ℕ) (s : List ℕ) : Type 0 where

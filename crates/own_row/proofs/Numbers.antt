@@ -38,12 +38,12 @@ back s =
 module _ (c : Call) (m m′ : Lent) (s : SameLent c m m′) where
   level-fault : LevelByteFault c m → LevelByteFault c m′
   level-fault a =
-      let h = a .height in
+      let h = a .too-high in
       record {
         inside = a .inside;
         plane = a .plane;
         filtered = a .filtered;
-        height = record {
+        too-high = record {
           x = h .x;
           y = h .y;
           right = h .right;
