@@ -3,4 +3,5 @@ mod corrections;
 mod filtering;
 mod list;
 mod recording;
+mod release;
 mod tables;
