@@ -2,6 +2,8 @@
 //! `tests/signatures.rs` holds this file to the crate's source.
 
 extern "C" {
+    pub fn deblock_version() -> u32;
+
     pub fn deblock_limits(
         e: &mut [u8; 64],
         i: &mut [u8; 64],

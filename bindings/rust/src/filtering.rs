@@ -2,38 +2,78 @@ use crate::ffi;
 use crate::refusal::done;
 use crate::{Depth, Frame, Limits, Refusal};
 
-/// The planes of a frame, `u8` at depth 8, `u16` at 10 and 12. Each holds the frame with its sides rounded up to 128
-/// luma samples, the padding too in the depth's range: clear it once. U and V may be empty where chroma is not filtered.
+/// The planes of a frame, `u8` at depth 8, `u16` at 10 and 12.
+///
+/// Each holds the frame with its sides rounded up to 128 luma samples: [`Frame::stored_luma`] and
+/// [`Frame::stored_chroma`] say how much that is. U and V may be empty where chroma is not filtered.
+///
+/// The padding must be in the depth's range too, since [`Refusal::Plane`] looks at whole stored lines. So clear it
+/// for each frame ([`clear_padding`](Self::clear_padding)).
 #[derive(Debug)]
 pub struct Planes<'a, Sample> {
-    /// Luma.
+    /// This is luma.
     pub luma: &'a mut [Sample],
-    /// Samples from one line of luma to the next.
+    /// From one line of luma to the next it is this many samples.
     pub luma_stride: usize,
-    /// U.
+    /// This is U.
     pub u: &'a mut [Sample],
-    /// V.
+    /// This is V.
     pub v: &'a mut [Sample],
-    /// Samples from one line of U to the next, and of V.
+    /// From one line of U to the next it is this many samples, and in V as many.
     pub chroma_stride: usize,
 }
 
-/// What every pass over a frame is given: what recording and corrections have left, and the frame header.
+impl<Sample: Copy + Default> Planes<'_, Sample> {
+    /// Sets every stored sample outside the frame's width and height to 0.
+    ///
+    /// Do this for each frame, since a frame of another size or depth may have been in the same planes before. Do it
+    /// before the frame is decoded, and not after: blocks at the right and at the bottom reach into the padding, and
+    /// the filter reads the samples that decoding puts there.
+    ///
+    /// Planes that are too short are cleared as far as they go. The calls that filter refuse them.
+    pub fn clear_padding(&mut self, frame: &Frame) {
+        let luma = (frame.width as usize, frame.height as usize);
+        clear_outside(self.luma, self.luma_stride, luma, frame.stored_luma());
+        for plane in [&mut *self.u, &mut *self.v] {
+            let (inside, stored) = (frame.chroma_sides(), frame.stored_chroma());
+            clear_outside(plane, self.chroma_stride, inside, stored);
+        }
+    }
+}
+
+/// Sets to 0 what a plane stores and what is not inside. Both sides are given, width and height.
+fn clear_outside<Sample: Copy + Default>(
+    plane: &mut [Sample],
+    stride: usize,
+    inside: (usize, usize),
+    stored: (usize, usize),
+) {
+    let lines = plane.chunks_mut(stride.max(1)).take(stored.1);
+    for (y, line) in lines.enumerate() {
+        let first = if y < inside.1 { inside.0 } else { 0 };
+        let end = stored.0.min(line.len());
+        if let Some(padding) = line.get_mut(first..end) {
+            padding.fill(Sample::default());
+        }
+    }
+}
+
+/// What every pass over a frame is given: what recording and corrections have left, and what the frame header says.
 #[derive(Clone, Copy, Debug)]
 pub struct Pass<'a> {
-    /// The frame.
+    /// This is the frame.
     pub frame: Frame,
-    /// The level bytes ([`Records`](crate::Records)).
+    /// These are the level bytes ([`Records`](crate::Records)).
     pub levels: &'a [u8],
-    /// Units from one line of `levels` to the next.
-    pub stride: usize,
-    /// The masks.
+    /// From one line of `levels` to the next it is this many units.
+    pub level_stride: usize,
+    /// These are the masks ([`Records`](crate::Records)).
     pub masks: &'a [u16],
-    /// The limit table of the frame's sharpness.
+    /// This is the limit table of the frame's sharpness.
     pub limits: &'a Limits,
-    /// The base level of U, 0 to 63. Chroma is not filtered where both are 0.
+    /// This is the base level of U, 0 to 63. Chroma is not filtered where U's and V's are both 0.
     pub level_u: u32,
-    /// The base level of V.
+    /// This is the base level of V.
     pub level_v: u32,
 }
 
@@ -52,7 +92,7 @@ macro_rules! pass {
                 $planes.chroma_stride,
                 $pass.levels.as_ptr(),
                 $pass.levels.len(),
-                $pass.stride,
+                $pass.level_stride,
                 $pass.masks.as_ptr(),
                 $pass.masks.len(),
                 &$pass.limits.e,
@@ -70,22 +110,25 @@ macro_rules! pass {
     };
 }
 
-/// Filters the column edges of superblock row `row` at depth 8.
+/// Filters the column edges of superblock row `row` at depth 8. Its blocks are recorded and its corrections are made
+/// before.
 ///
-/// Refused with [`Refusal::Level`], [`Refusal::Frame`], [`Refusal::Memory`], [`Refusal::LevelByte`],
-/// [`Refusal::Plane`], [`Refusal::Row`], [`Refusal::Gap`] or [`Refusal::StrayBit`].
+/// Refused with [`Refusal::Level`], [`Refusal::Shape`], [`Refusal::Length`], [`Refusal::LevelByte`],
+/// [`Refusal::Plane`], [`Refusal::Outside`], [`Refusal::Gap`] or [`Refusal::MaskBit`].
 pub fn columns_8(planes: &mut Planes<u8>, pass: &Pass, row: u32) -> Result<(), Refusal> {
     pass!(deblock_columns_8, planes, pass, row)
 }
 
-/// Filters the row edges of superblock row `row` at depth 8, once the columns of it and of the row above are done.
+/// Filters the row edges of superblock row `row` at depth 8. The columns of it and of the row above are filtered
+/// before.
 ///
 /// Refused as [`columns_8`].
 pub fn rows_8(planes: &mut Planes<u8>, pass: &Pass, row: u32) -> Result<(), Refusal> {
     pass!(deblock_rows_8, planes, pass, row)
 }
 
-/// Filters the column edges of superblock row `row` at any depth.
+/// Filters the column edges of superblock row `row` at any depth. Its blocks are recorded and its corrections are
+/// made before.
 ///
 /// Refused as [`columns_8`].
 pub fn columns_16(
@@ -97,7 +140,8 @@ pub fn columns_16(
     pass!(deblock_columns_16, planes, pass, row, depth)
 }
 
-/// Filters the row edges of superblock row `row` at any depth, once the columns of it and of the row above are done.
+/// Filters the row edges of superblock row `row` at any depth. The columns of it and of the row above are filtered
+/// before.
 ///
 /// Refused as [`columns_8`].
 pub fn rows_16(

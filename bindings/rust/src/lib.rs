@@ -1,68 +1,97 @@
-//! The deblocking filter of AV1, verified: a safe interface to the archive of crate `deblock`, whose every call is
-//! proved to end on all input, to answer its number exactly when document 01 of the repository says so, and to give the
-//! samples of section 7.14 of the standard. What is proved is the archive; this crate passes slices to it, and its
-//! declarations are held to the archive's source by a test.
+//! The deblocking filter of AV1, verified: a safe interface to the archive of crate `deblock`. Every call of the
+//! archive is proved to end on all input, to answer its number exactly when document 01 of the repository says so,
+//! and to give the samples of section 7.14 of the standard. What is proved is the archive. This crate passes slices
+//! to it. A test holds the crate's declarations to the archive's source.
 //!
 //! A frame goes through these calls:
 //!
-//! 1. [`limits`] and [`levels`], from the frame header;
-//! 2. [`record_intra`] or [`record_inter`] for each block, in the order of decoding;
-//! 3. [`correct_column`] and [`correct_row`] at the start of each tile;
-//! 4. [`columns_8`] and [`rows_8`], or [`columns_16`] and [`rows_16`], for each superblock row.
+//! 1. [`Limits::new`] and [`levels`] take what the frame header says.
+//! 2. [`record_intra`] or [`record_inter`] takes each block, in the order of decoding.
+//! 3. [`correct_column`] and [`correct_row`] correct the edges at the start of each tile.
+//! 4. [`columns_8`] and [`rows_8`], or [`columns_16`] and [`rows_16`], filter each superblock row.
 //!
-//! [`list`] lists the edges of a script's blocks.
-//!
-//! The rows of a superblock row wait for its columns and those of the row above; beyond that every order gives the
-//! same samples. That is proved of calls one after another. Planes, masks and levels are lent to one call at a time:
-//! with this crate, workers that share a frame take turns. Which calls of the archive may be in progress at the same
-//! moment is a table of the repository's docs/USING.md, held by runs and not proved.
+//! [`list`] lists the edges of a script's blocks. The program `examples/frame.rs` takes a frame of four tiles through
+//! all of this. `cargo run --example frame` runs it.
 //!
 //! ```
 //! use deblock::*;
 //!
 //! # fn main() -> Result<(), Refusal> {
 //! let frame = Frame { width: 16, height: 8, layout: Layout::I400, superblock: 64 };
-//! let mut table = Limits::default();
-//! limits(&mut table, 0)?;
+//! let limits = Limits::new(0)?;
 //! let mut values = [0; 512];
 //! levels(&mut values, frame.layout, &Header { base: [32, 32, 0, 0], ..Header::default() })?;
+//! let values = segment(&values, 0).unwrap();
 //!
-//! // Two intra blocks of 8x8, each with one transform: there is one edge, at unit 2.
-//! let (mut bytes, mut masks) = ([0; 4 * 4 * 2], [0; 640]);
-//! let (mut above, mut left) = ([2; 4], [2; 2]);
+//! // Two intra blocks of 8x8 have one transform each: there is one edge, at unit 2.
+//! let level_stride = frame.w4() as usize;
+//! let (mut bytes, mut masks) = (vec![0; frame.levels_len(level_stride)], vec![0; frame.masks_len()]);
+//! let mut records = Records { levels: &mut bytes, level_stride, masks: &mut masks };
+//! let (above, left) = (&mut [2; 4], &mut [2; 2]);
+//! let mut contexts = Contexts { above, left, above_uv: &mut [], left_uv: &mut [] };
 //! for x in [0, 2] {
-//!     record_intra(
-//!         &mut Records { levels: &mut bytes, stride: 4, masks: &mut masks },
-//!         values.first_chunk().unwrap(),
-//!         &frame,
-//!         &Block { x, y: 0, size: 3, tx: 1, chroma: None },
-//!         &mut Contexts {
-//!             above: &mut above[x as usize..],
-//!             left: &mut left,
-//!             above_uv: &mut [],
-//!             left_uv: &mut [],
-//!         },
-//!     )?;
+//!     let block = Block { x, y: 0, size: BlockSize::Block8x8, tx: TxSize::Tx8x8, chroma: None };
+//!     record_intra(&mut records, values, &frame, &block, &mut contexts.at(&frame, x, 0))?;
 //! }
 //!
-//! // Stored planes are 128 by 128 samples at least.
-//! let mut luma = vec![100; 128 * 128];
-//! for line in luma.chunks_mut(128) {
+//! let (luma_stride, lines) = frame.stored_luma();
+//! let mut luma = vec![100; luma_stride * lines];
+//! for line in luma.chunks_mut(luma_stride) {
 //!     line[8..].fill(104);
 //! }
-//! let pass = Pass { frame, levels: &bytes, stride: 4, masks: &masks, limits: &table, level_u: 0, level_v: 0 };
+//! let pass =
+//!     Pass { frame, levels: &bytes, level_stride, masks: &masks, limits: &limits, level_u: 0, level_v: 0 };
 //! let mut planes =
-//!     Planes { luma: &mut luma, luma_stride: 128, u: &mut [], v: &mut [], chroma_stride: 0 };
+//!     Planes { luma: &mut luma, luma_stride, u: &mut [], v: &mut [], chroma_stride: 0 };
 //! columns_8(&mut planes, &pass, 0)?;
 //! rows_8(&mut planes, &pass, 0)?;
 //! assert_eq!(luma[4..12], [100, 101, 101, 102, 103, 103, 104, 104]);
 //!
 //! // A refusal says why, and stores nothing.
-//! assert_eq!(limits(&mut table, 8), Err(Refusal::Sharpness));
+//! assert_eq!(Limits::new(8), Err(Refusal::Sharpness));
 //! assert_eq!(Refusal::Sharpness.to_string(), "the sharpness is above 7");
 //! # Ok(())
 //! # }
 //! ```
+//!
+//! # What the caller must do
+//!
+//! The calls cannot notice all of these mistakes.
+//!
+//! - Convert block codes that are dav1d's or rav1d's with [`BlockSize::from_dav1d`].
+//! - Clip the deltas of segments, which a stream may hold at -64: [`segment_delta`].
+//! - Skip a frame whose two luma levels are 0. It is not filtered.
+//! - Clear the masks for each frame. Recording adds bits and takes none away.
+//! - Clear the padding of the planes for each frame, before it is decoded: [`Planes::clear_padding`].
+//! - Set the contexts anew at the start of each tile, and save before what the corrections need ([Tiles](#tiles)).
+//! - Make the corrections of a superblock row before both of its passes.
+//! - Filter the rows of a superblock row after the columns of it and of the row above. Beyond that every order gives
+//!   the same samples.
+//!
+//! # Tiles
+//!
+//! A context byte is the class of the transform that ends at its unit. It starts anew in each tile: at the tile's top
+//! ([`Contexts::start_above`]), and on its left at the start of each of its superblock rows
+//! ([`Contexts::start_left`]). The corrections need the bytes that stood there before, so save them before you set
+//! them anew:
+//!
+//! - Save `left` and `left_uv` after the last block of each superblock row of a tile. [`correct_column`] takes them,
+//!   for the same superblock row and the tile on the right.
+//! - Save `above` and `above_uv` after the last superblock row of a tile row, along the frame's whole width.
+//!   [`correct_row`] takes them, for the first superblock row of the tile row below.
+//!
+//! Nothing has to be copied if each tile column has a `left` of the frame's height and each tile row has an `above`
+//! of the frame's width. Set `left` anew only from the superblock row's first unit on, then: what stands before it is
+//! still needed (`contexts.at(&frame, 0, y).start_left()`).
+//!
+//! [`Refusal::Gap`], number 11, notices a forgotten column correction in most frames. No number notices a forgotten
+//! row correction: the samples are wrong and every call answers 0.
+//!
+//! # Threads
+//!
+//! What is said above of orders is proved for calls one after another. Planes, masks and levels are lent to one call
+//! at a time: with this crate, workers that share a frame take turns. The repository's docs/USING.md has a table of
+//! the archive's calls that may be in progress at the same moment. That table is run, and not proved.
 
 #![warn(missing_docs)]
 
@@ -73,7 +102,9 @@ mod frame;
 mod listing;
 mod recording;
 mod refusal;
+mod sizes;
 mod tables;
+mod version;
 
 pub use corrections::{correct_column, correct_row};
 pub use filtering::{columns_16, columns_8, rows_16, rows_8, Pass, Planes};
@@ -81,4 +112,6 @@ pub use frame::{Depth, Frame, Layout};
 pub use listing::list;
 pub use recording::{record_inter, record_intra, Block, Contexts, Inter, Records};
 pub use refusal::Refusal;
-pub use tables::{levels, limits, Header, Limits};
+pub use sizes::{BlockSize, TxSize};
+pub use tables::{delta, levels, limits, segment, segment_delta, Header, Limits};
+pub use version::{version, VERSION};

@@ -1,67 +1,72 @@
 use std::error::Error;
 use std::fmt;
 
-/// Why a call was refused: the numbers of document 01, each given exactly when what it says holds. Of several the
-/// lowest is given. A refused call has stored nothing.
+/// Why a call was refused. The numbers are those of document 01, and the names are those of the archive's source and
+/// of the C header. A call gives a number exactly when what it says holds. If several hold, the lowest is given. A
+/// refused call has stored nothing.
 #[derive(Clone, Copy, Debug, PartialEq, Eq, Hash)]
 #[repr(u32)]
 pub enum Refusal {
-    /// Sharpness above 7.
+    /// The sharpness is above 7.
     Sharpness = 1,
-    /// Base level above 63, reference or mode delta outside -64..63, lf or segment delta outside -63..63, or a chroma
-    /// base level other than 0 at 4:0:0.
+    /// A base level is above 63, a reference or mode delta is outside -64 to 63, an lf or segment delta is outside
+    /// -63 to 63, or chroma has a base level other than 0 at 4:0:0.
     Level = 2,
-    /// Depth not 8, 10 or 12. [`Depth`](crate::Depth) has no such value: only its `TryFrom` gives this.
+    /// The depth is not 8, 10 or 12. [`Depth`](crate::Depth) has no such value, so only its `TryFrom` gives this.
     Depth = 3,
-    /// A frame side outside 1 to 16,384, superblock size not 64 or 128, a chroma pair given at 4:0:0, or, from
-    /// [`Layout`](crate::Layout)'s `TryFrom`, a layout that is none.
-    Frame = 4,
-    /// Block size code above 21 or transform code above 18; place not a multiple of the block's own width and height,
-    /// or past the frame; transform wider or higher than the block in its plane; for inter, a luma transform that is
-    /// neither the block's own size cut at 64 each way nor 4x4; reference above 7.
+    /// A frame side is outside 1 to 16,384, the superblock size is not 64 or 128, or a chroma pair is given at 4:0:0.
+    /// [`Layout`](crate::Layout) has no wrong value, so only its `TryFrom` gives this for a layout.
+    Shape = 4,
+    /// The block's place is not a multiple of its own width and height, or lies past the frame. Or a transform is
+    /// wider or higher than the block in its plane. Or an inter block has a luma transform that is neither the
+    /// block's own size cut at 64 each way nor 4x4. Or the reference is above 7. [`BlockSize`](crate::BlockSize) and
+    /// [`TxSize`](crate::TxSize) have no wrong value, so only their conversions give this for a code.
     Block = 5,
-    /// A context with fewer bytes than the units recorded or corrected along it, or with a value above its range among
-    /// those.
+    /// A context has fewer bytes than the units recorded or corrected along it, or it holds a value above its range
+    /// among those.
     Context = 6,
-    /// Level bytes or masks too short, or their stride below the frame's width in units.
-    Memory = 7,
-    /// A level byte above 63 of this pass at a unit of the superblock row or, for rows, of the unit line above it.
+    /// The level bytes or the masks are too short, or `level_stride` is less than the frame's width in units.
+    Length = 7,
+    /// A level byte of this pass is above 63, at a unit of the superblock row or, for rows, of the unit line above
+    /// it.
     LevelByte = 8,
-    /// Plane too short, its stride below the stored width, or a sample above the depth's maximum among the superblock
-    /// row's stored lines and, for rows, the 8 above.
+    /// A plane is too short, its stride is less than the stored width, or a sample is above the depth's maximum among
+    /// the superblock row's stored lines and, for rows, the 8 above.
     Plane = 9,
-    /// Superblock row, or tile start counted in superblocks, outside the frame.
-    Row = 10,
-    /// An edge breaks the gap rule in this superblock row.
+    /// The superblock row, or the tile start counted in superblocks, lies outside the frame.
+    Outside = 10,
+    /// An edge breaks the gap rule in this superblock row: it is too close to another for its width. A forgotten
+    /// [`correct_column`](crate::correct_column) does this in most frames.
     Gap = 11,
-    /// A mask bit of this superblock row outside the frame, or outside the bits its half may hold.
-    StrayBit = 12,
+    /// A mask bit of this superblock row lies outside the frame, or outside the bits that its half may hold. Masks
+    /// that were not cleared can do this.
+    MaskBit = 12,
 }
 
 impl Refusal {
-    /// All of them, in the order of their numbers.
+    /// This is every refusal, in the order of the numbers.
     pub const ALL: [Refusal; 12] = [
         Refusal::Sharpness,
         Refusal::Level,
         Refusal::Depth,
-        Refusal::Frame,
+        Refusal::Shape,
         Refusal::Block,
         Refusal::Context,
-        Refusal::Memory,
+        Refusal::Length,
         Refusal::LevelByte,
         Refusal::Plane,
-        Refusal::Row,
+        Refusal::Outside,
         Refusal::Gap,
-        Refusal::StrayBit,
+        Refusal::MaskBit,
     ];
 
-    /// The number of document 01, 1 to 12.
+    /// Answers the number of document 01, 1 to 12.
     pub fn number(self) -> u32 {
         self as u32
     }
 }
 
-/// The refusal of a number; a number that is none comes back.
+/// Takes a number that a call of the archive has answered. A number that is no refusal comes back.
 impl TryFrom<u32> for Refusal {
     type Error = u32;
 
@@ -71,21 +76,24 @@ impl TryFrom<u32> for Refusal {
     }
 }
 
+/// Writes the sentence that C's `deblock_text` has for the number.
 impl fmt::Display for Refusal {
     fn fmt(&self, f: &mut fmt::Formatter) -> fmt::Result {
         f.write_str(match self {
             Self::Sharpness => "the sharpness is above 7",
-            Self::Level => "a base level or a delta is out of range, or chroma has a level at 4:0:0",
+            Self::Level => "a base level or a delta is out of its range, or chroma has a base level at 4:0:0",
             Self::Depth => "the depth is not 8, 10 or 12",
-            Self::Frame => "the layout, a frame side or the superblock size is wrong, or there is chroma at 4:0:0",
+            Self::Shape => "the layout, a frame side or the superblock size is wrong, or a block has chroma at 4:0:0",
             Self::Block => "the block's size, transform, place or reference is not allowed",
-            Self::Context => "a context is too short, or has a value above its range",
-            Self::Memory => "the level bytes or the masks are too short, or their stride is less than the frame's width",
+            Self::Context => "a context is too short, or holds a value above its range",
+            Self::Length => "the level bytes or the masks are too short, or level_stride is less than the frame's width in units",
             Self::LevelByte => "a level byte is above 63",
-            Self::Plane => "a plane or its stride is too short, or a sample is above the depth's maximum",
-            Self::Row => "the superblock row or the tile start is outside the frame",
-            Self::Gap => "two edges are closer together than their filters allow",
-            Self::StrayBit => "a mask bit is set where the frame has no edge",
+            Self::Plane => "a plane is too short, its stride is less than the stored width, or a sample is above the depth's maximum",
+            Self::Outside => "the superblock row or the tile start lies outside the frame",
+            Self::Gap => {
+                "an edge breaks the gap rule: two edges lie too close together for their classes"
+            }
+            Self::MaskBit => "a mask bit lies outside the frame, or outside the bits that its half may hold",
         })
     }
 }

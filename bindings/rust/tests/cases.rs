@@ -3,9 +3,7 @@
 use deblock::*;
 
 fn table(sharpness: u32) -> Limits {
-    let mut table = Limits::default();
-    limits(&mut table, sharpness).unwrap();
-    table
+    Limits::new(sharpness).unwrap()
 }
 
 #[test]
@@ -25,8 +23,8 @@ fn c1_to_c5() {
     assert_eq!(table(5).sharp, [2, 4]);
 }
 
-/// The stored plane: `line` lies with its middle at sample 16, and its ends go on. The first four lines have `first` in
-/// its place. Turned, the lines are columns.
+/// The stored plane: `line` lies with its middle at sample 16, and its ends go on. The first four lines have `first`
+/// in its place. Turned, the lines are columns.
 fn plane(first: &[u16], line: &[u16], turned: bool) -> Vec<u16> {
     let start = 16 - line.len() / 2;
     let sample = |along: usize, across: usize| {
@@ -66,7 +64,7 @@ fn filters(depth: Depth, class: usize, before: &[u16], after: &[u16]) {
         let pass = Pass {
             frame,
             levels: &[32; 32],
-            stride: width as usize / 4,
+            level_stride: frame.w4() as usize,
             masks: &masks,
             limits: &table(0),
             level_u: 0,

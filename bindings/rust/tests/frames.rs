@@ -13,21 +13,18 @@ const FRAME: Frame = Frame {
 };
 const BASE: [u8; 4] = [32, 28, 24, 20];
 
-/// The transform of a block of 16x16: 4x4, 8x8 or 16x16; of its chroma 4x4 or 8x8.
-fn transform(bx: usize, by: usize, chroma: bool) -> usize {
+/// The transform of a block of 16x16 is 4x4, 8x8 or 16x16, that of its chroma 4x4 or 8x8.
+fn transform(bx: usize, by: usize, chroma: bool) -> TxSize {
+    let largest = if chroma { 1 } else { 2 };
     let tx = (bx.div_ceil(2) + by.div_ceil(2)) % 3;
-    if chroma {
-        tx.min(1)
-    } else {
-        tx
-    }
+    [TxSize::Tx4x4, TxSize::Tx8x8, TxSize::Tx16x16][tx.min(largest)]
 }
 
 /// Small steps from transform to transform, a grain of 1, and some blocks that stand far higher.
 fn sample(x: usize, y: usize, chroma: bool) -> u16 {
     let side = if chroma { 8 } else { 16 };
     let (bx, by) = (x / side, y / side);
-    let step = 4 << transform(bx, by, chroma);
+    let step = transform(bx, by, chroma).width() as usize;
     let lift = if (bx * 3 + by) % 11 == 5 { 60 } else { 0 };
     (100 + (x / step * 3 + y / step * 5) % 8 + (x * 3 + y * 7) / 5 % 2 + lift) as u16
 }
@@ -63,8 +60,6 @@ struct Recorded {
 
 impl Recorded {
     fn new(base: [u8; 4]) -> Recorded {
-        let mut table = Limits::default();
-        limits(&mut table, 0).unwrap();
         let header = Header {
             base,
             ..Header::default()
@@ -75,35 +70,34 @@ impl Recorded {
             base,
             levels: [0; 4096],
             masks: [0; 640],
-            limits: table,
+            limits: Limits::new(0).unwrap(),
         };
-        recorded.record(values.first_chunk().unwrap());
+        recorded.record(segment(&values, 0).unwrap());
         recorded
     }
 
     fn record(&mut self, values: &[u8; 64]) {
-        let (mut above, mut left) = ([2; 32], [2; 32]);
-        let (mut above_uv, mut left_uv) = ([1; 16], [1; 16]);
+        let mut contexts = Contexts {
+            above: &mut [2; 32],
+            left: &mut [2; 32],
+            above_uv: &mut [1; 16],
+            left_uv: &mut [1; 16],
+        };
         for n in 0..64 {
             let (bx, by) = (n % 8, n / 8);
             let block = Block {
                 x: 4 * bx as u32,
                 y: 4 * by as u32,
-                size: 6,
-                tx: transform(bx, by, false) as u32,
-                chroma: Some(transform(bx, by, true) as u32),
+                size: BlockSize::Block16x16,
+                tx: transform(bx, by, false),
+                chroma: Some(transform(bx, by, true)),
             };
             let mut records = Records {
                 levels: &mut self.levels,
-                stride: 32,
+                level_stride: 32,
                 masks: &mut self.masks,
             };
-            let mut contexts = Contexts {
-                above: &mut above[4 * bx..],
-                left: &mut left[4 * by..],
-                above_uv: &mut above_uv[2 * bx..],
-                left_uv: &mut left_uv[2 * by..],
-            };
+            let mut contexts = contexts.at(&FRAME, block.x, block.y);
             record_intra(&mut records, values, &FRAME, &block, &mut contexts).unwrap();
         }
     }
@@ -112,7 +106,7 @@ impl Recorded {
         Pass {
             frame: FRAME,
             levels: &self.levels,
-            stride: 32,
+            level_stride: 32,
             masks: &self.masks,
             limits: &self.limits,
             level_u: self.base[2].into(),

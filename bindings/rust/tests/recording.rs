@@ -32,25 +32,25 @@ fn fresh() -> Memory {
     }
 }
 
-/// The value of a kind, reference and mode.
+/// The value of an area, reference and mode.
 fn values() -> [u8; 64] {
     std::array::from_fn(|k| 63 - k as u8)
 }
 
 fn recorded(block: &Block, inter: Option<&Inter>) -> Memory {
     let mut m = fresh();
-    let (x, y) = (block.x as usize, block.y as usize);
     let mut records = Records {
         levels: &mut m.levels,
-        stride: STRIDE,
+        level_stride: STRIDE,
         masks: &mut m.masks,
     };
     let mut contexts = Contexts {
-        above: &mut m.above[x..],
-        left: &mut m.left[y..],
-        above_uv: &mut m.above_uv[x / 2..],
-        left_uv: &mut m.left_uv[y / 2..],
+        above: &mut m.above,
+        left: &mut m.left,
+        above_uv: &mut m.above_uv,
+        left_uv: &mut m.left_uv,
     };
+    let mut contexts = contexts.at(&FRAME, block.x, block.y);
     let answer = match inter {
         None => record_intra(&mut records, &values(), &FRAME, block, &mut contexts),
         Some(inter) => record_inter(&mut records, &values(), &FRAME, block, inter, &mut contexts),
@@ -67,18 +67,18 @@ fn chroma(pass: usize, unit: usize, class: usize) -> usize {
     384 + ((pass * 32 + unit) * 2 + class) * 2
 }
 
-/// The level bytes of some units, by kinds, of a reference and mode.
+/// The level bytes of some units, by areas, of a reference and mode.
 fn fill(
     m: &mut Memory,
     columns: [usize; 2],
     lines: [usize; 2],
-    kinds: [usize; 2],
+    areas: [usize; 2],
     reference_mode: usize,
 ) {
     for y in lines[0]..lines[1] {
         for x in columns[0]..columns[1] {
-            for kind in kinds {
-                m.levels[4 * (y * STRIDE + x) + kind] = values()[16 * kind + reference_mode];
+            for area in areas {
+                m.levels[4 * (y * STRIDE + x) + area] = values()[16 * area + reference_mode];
             }
         }
     }
@@ -90,9 +90,9 @@ fn intra() {
     let block = Block {
         x: 4,
         y: 2,
-        size: 3,
-        tx: 0,
-        chroma: Some(0),
+        size: BlockSize::Block8x8,
+        tx: TxSize::Tx4x4,
+        chroma: Some(TxSize::Tx4x4),
     };
     let mut expected = fresh();
     fill(&mut expected, [4, 6], [2, 4], [0, 1], 0);
@@ -123,9 +123,9 @@ fn intra() {
 const BLOCK: Block = Block {
     x: 4,
     y: 0,
-    size: 6,
-    tx: 2,
-    chroma: Some(1),
+    size: BlockSize::Block16x16,
+    tx: TxSize::Tx16x16,
+    chroma: Some(TxSize::Tx8x8),
 };
 const INTER: Inter = Inter {
     tx_masks: [0, 0],
@@ -145,7 +145,10 @@ fn inter_split_once_records_as_intra_of_8x8() {
         tx_masks: [1, 0],
         ..INTER
     };
-    let of_8x8 = Block { tx: 1, ..BLOCK };
+    let of_8x8 = Block {
+        tx: TxSize::Tx8x8,
+        ..BLOCK
+    };
     assert_eq!(recorded(&BLOCK, Some(&split)), recorded(&of_8x8, None));
 }
 
@@ -171,7 +174,10 @@ fn inter_split_twice_at_one_quarter() {
 
 #[test]
 fn a_skipped_block_has_its_own_edges_alone() {
-    let block = Block { tx: 0, ..BLOCK };
+    let block = Block {
+        tx: TxSize::Tx4x4,
+        ..BLOCK
+    };
     let skipped = Inter {
         skip: true,
         ..INTER

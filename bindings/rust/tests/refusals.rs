@@ -19,7 +19,7 @@ fn layouts_and_depths() {
     for layout in [Layout::I400, Layout::I420, Layout::I422, Layout::I444] {
         assert_eq!(Layout::try_from(layout.number()), Ok(layout));
     }
-    assert_eq!(Layout::try_from(440), Err(Refusal::Frame));
+    assert_eq!(Layout::try_from(440), Err(Refusal::Shape));
     for depth in [Depth::Eight, Depth::Ten, Depth::Twelve] {
         assert_eq!(Depth::try_from(depth.bits()), Ok(depth));
     }
@@ -66,7 +66,7 @@ fn header_levels() {
 struct Filter {
     frame: Frame,
     levels: Vec<u8>,
-    stride: usize,
+    level_stride: usize,
     masks: Vec<u16>,
     level_u: u32,
     level_v: u32,
@@ -97,7 +97,7 @@ fn filter() -> Filter {
             superblock: 64,
         },
         levels: vec![32; 64],
-        stride: 4,
+        level_stride: 4,
         masks,
         level_u: 32,
         level_v: 32,
@@ -128,14 +128,12 @@ impl Filter {
     /// The answers of columns and rows on planes of `u8`, then of `u16`. What is refused stores nothing; what is
     /// accepted changes each plane.
     fn answers(&self) -> [Result<(), Refusal>; 4] {
-        let mut table = Limits::default();
-        limits(&mut table, 0).unwrap();
         let pass = Pass {
             frame: self.frame,
             levels: &self.levels,
-            stride: self.stride,
+            level_stride: self.level_stride,
             masks: &self.masks,
-            limits: &table,
+            limits: &Limits::new(0).unwrap(),
             level_u: self.level_u,
             level_v: self.level_v,
         };
@@ -186,18 +184,18 @@ fn filtering_levels() {
 }
 
 #[test]
-fn filtering_frame() {
-    with(|f| f.frame.width = 0).refused(Refusal::Frame);
-    with(|f| f.frame.height = 16_385).refused(Refusal::Frame);
-    with(|f| f.frame.superblock = 32).refused(Refusal::Frame);
+fn filtering_shape() {
+    with(|f| f.frame.width = 0).refused(Refusal::Shape);
+    with(|f| f.frame.height = 16_385).refused(Refusal::Shape);
+    with(|f| f.frame.superblock = 32).refused(Refusal::Shape);
 }
 
 #[test]
-fn filtering_memory() {
-    with(|f| f.levels.truncate(63)).refused(Refusal::Memory);
-    with(|f| f.masks.truncate(639)).refused(Refusal::Memory);
-    with(|f| f.stride = 3).refused(Refusal::Memory);
-    with(|f| f.stride = usize::MAX).refused(Refusal::Memory);
+fn filtering_lengths() {
+    with(|f| f.levels.truncate(63)).refused(Refusal::Length);
+    with(|f| f.masks.truncate(639)).refused(Refusal::Length);
+    with(|f| f.level_stride = 3).refused(Refusal::Length);
+    with(|f| f.level_stride = usize::MAX).refused(Refusal::Length);
 }
 
 #[test]
@@ -225,9 +223,9 @@ fn filtering_planes() {
 }
 
 #[test]
-fn filtering_row() {
-    with(|f| f.row = 1).refused(Refusal::Row);
-    with(|f| f.row = u32::MAX).refused(Refusal::Row);
+fn filtering_outside() {
+    with(|f| f.row = 1).refused(Refusal::Outside);
+    with(|f| f.row = u32::MAX).refused(Refusal::Outside);
 }
 
 #[test]
@@ -240,12 +238,11 @@ fn filtering_gaps() {
 }
 
 #[test]
-fn filtering_stray_bits() {
+fn filtering_mask_bits() {
     for pass in 0..2 {
-        with(|f| f.masks[(pass * 32 + 4) * 6] = 1).refused_in(pass, Refusal::StrayBit);
-        with(|f| f.masks[(pass * 32 + 2) * 6] = 1 << 4).refused_in(pass, Refusal::StrayBit);
-        with(|f| f.masks[CHROMA + (pass * 32 + 1) * 4] = 1 << 2)
-            .refused_in(pass, Refusal::StrayBit);
+        with(|f| f.masks[(pass * 32 + 4) * 6] = 1).refused_in(pass, Refusal::MaskBit);
+        with(|f| f.masks[(pass * 32 + 2) * 6] = 1 << 4).refused_in(pass, Refusal::MaskBit);
+        with(|f| f.masks[CHROMA + (pass * 32 + 1) * 4] = 1 << 2).refused_in(pass, Refusal::MaskBit);
     }
 }
 
@@ -254,21 +251,21 @@ fn the_lowest_of_several() {
     let mut f = filter();
     f.masks[6 * 4] = 1;
     f.masks[6 * 36] = 1;
-    f.refused(Refusal::StrayBit);
+    f.refused(Refusal::MaskBit);
     f.masks[6 + 2] = 1;
     f.masks[6 * 33 + 2] = 1;
     f.refused(Refusal::Gap);
     f.row = 9;
-    f.refused(Refusal::Row);
+    f.refused(Refusal::Outside);
     f.luma_stride = 127;
     f.refused(Refusal::Plane);
     f.row = 0;
     f.levels[2] = 64;
     f.refused(Refusal::LevelByte);
-    f.stride = 3;
-    f.refused(Refusal::Memory);
+    f.level_stride = 3;
+    f.refused(Refusal::Length);
     f.frame.superblock = 65;
-    f.refused(Refusal::Frame);
+    f.refused(Refusal::Shape);
     f.level_u = 64;
     f.refused(Refusal::Level);
 }
@@ -279,7 +276,7 @@ struct Recording {
     frame: Frame,
     block: Block,
     inter: Inter,
-    stride: usize,
+    level_stride: usize,
     levels: Vec<u8>,
     masks: Vec<u16>,
     above: Vec<u8>,
@@ -299,9 +296,9 @@ fn recording(change: fn(&mut Recording)) -> Recording {
         block: Block {
             x: 2,
             y: 0,
-            size: 3,
-            tx: 1,
-            chroma: Some(0),
+            size: BlockSize::Block8x8,
+            tx: TxSize::Tx8x8,
+            chroma: Some(TxSize::Tx4x4),
         },
         inter: Inter {
             tx_masks: [0, 0],
@@ -309,7 +306,7 @@ fn recording(change: fn(&mut Recording)) -> Recording {
             reference: 1,
             mode: true,
         },
-        stride: 4,
+        level_stride: 4,
         levels: vec![99; 32],
         masks: vec![0; 640],
         above: vec![0; 2],
@@ -327,7 +324,7 @@ impl Recording {
         let mut after = self.clone();
         let mut records = Records {
             levels: &mut after.levels,
-            stride: self.stride,
+            level_stride: self.level_stride,
             masks: &mut after.masks,
         };
         let mut contexts = Contexts {
@@ -365,26 +362,23 @@ fn recording_without_a_fault() {
 }
 
 #[test]
-fn recording_frame() {
-    recording(|r| r.frame.width = 16_385).refused(Refusal::Frame);
-    recording(|r| r.frame.height = 0).refused(Refusal::Frame);
-    recording(|r| r.frame.layout = Layout::I400).refused(Refusal::Frame);
+fn recording_shape() {
+    recording(|r| r.frame.width = 16_385).refused(Refusal::Shape);
+    recording(|r| r.frame.height = 0).refused(Refusal::Shape);
+    recording(|r| r.frame.layout = Layout::I400).refused(Refusal::Shape);
 }
 
 #[test]
 fn recording_block() {
-    recording(|r| r.block.size = 22).refused(Refusal::Block);
-    recording(|r| r.block.tx = 19).refused(Refusal::Block);
-    recording(|r| r.block.chroma = Some(19)).refused(Refusal::Block);
-    recording(|r| r.block.chroma = Some(1)).refused(Refusal::Block);
-    recording(|r| r.block.tx = 2).refused(Refusal::Block);
+    recording(|r| r.block.chroma = Some(TxSize::Tx8x8)).refused(Refusal::Block);
+    recording(|r| r.block.tx = TxSize::Tx16x16).refused(Refusal::Block);
     recording(|r| r.block.x = 1).refused(Refusal::Block);
     recording(|r| r.block.x = 6).refused(Refusal::Block);
     recording(|r| r.block.y = 4).refused(Refusal::Block);
     let reference = recording(|r| r.inter.reference = 8);
     assert_eq!(reference.answer(true), Err(Refusal::Block));
     assert_eq!(reference.answer(false), Ok(()));
-    let transform = recording(|r| r.block.tx = 5);
+    let transform = recording(|r| r.block.tx = TxSize::Tx4x8);
     assert_eq!(transform.answer(true), Err(Refusal::Block));
     assert_eq!(transform.answer(false), Ok(()));
 }
@@ -402,27 +396,47 @@ fn recording_contexts() {
 }
 
 #[test]
-fn recording_memory() {
-    recording(|r| r.levels.truncate(31)).refused(Refusal::Memory);
-    recording(|r| r.masks.truncate(639)).refused(Refusal::Memory);
-    recording(|r| r.stride = 3).refused(Refusal::Memory);
+fn recording_lengths() {
+    recording(|r| r.levels.truncate(31)).refused(Refusal::Length);
+    recording(|r| r.masks.truncate(639)).refused(Refusal::Length);
+    recording(|r| r.level_stride = 3).refused(Refusal::Length);
 }
 
-/// Both corrections at superblock 1 of a frame of 128 by 128 samples at 4:2:0, given a number of mask words, a
-/// superblock row, a tile start and both contexts.
-fn corrects(
+/// Both corrections of a frame, given a number of mask words, a superblock row, a tile start and both contexts.
+#[derive(Clone, Copy)]
+struct Correcting<'a> {
     frame: Frame,
     words: usize,
     row: u32,
     start: u32,
-    luma: &[u8],
-    chroma: &[u8],
-) -> [Result<(), Refusal>; 2] {
+    luma: &'a [u8],
+    chroma: &'a [u8],
+}
+
+/// At superblock 1 of a frame of 128 by 128 samples at 4:2:0.
+const CORRECTING: Correcting = Correcting {
+    frame: Frame {
+        width: 128,
+        height: 128,
+        layout: Layout::I420,
+        superblock: 64,
+    },
+    words: 640,
+    row: 1,
+    start: 1,
+    luma: &[2; 32],
+    chroma: &[1; 16],
+};
+
+/// The answers for columns and for rows. What is refused stores nothing; what is accepted stores something.
+fn corrects(change: fn(&mut Correcting)) -> [Result<(), Refusal>; 2] {
+    let mut c = CORRECTING;
+    change(&mut c);
     [0, 1].map(|pass| {
-        let mut masks = vec![0; words];
+        let mut masks = vec![0; c.words];
         let answer = match pass {
-            0 => correct_column(&mut masks, &frame, row, start, luma, chroma),
-            _ => correct_row(&mut masks, &frame, row, luma, chroma),
+            0 => correct_column(&mut masks, &c.frame, c.row, c.start, c.luma, c.chroma),
+            _ => correct_row(&mut masks, &c.frame, c.row, c.luma, c.chroma),
         };
         assert_eq!(masks.iter().all(|&word| word == 0), answer.is_err());
         answer
@@ -431,49 +445,15 @@ fn corrects(
 
 #[test]
 fn corrections() {
-    let frame = Frame {
-        width: 128,
-        height: 128,
-        layout: Layout::I420,
-        superblock: 64,
-    };
-    let (luma, chroma) = ([2; 32], [1; 16]);
     let both = |refusal| [Err(refusal); 2];
-    assert_eq!(corrects(frame, 640, 1, 1, &luma, &chroma), [Ok(()); 2]);
-    let wrong = Frame {
-        superblock: 0,
-        ..frame
-    };
-    assert_eq!(
-        corrects(wrong, 640, 1, 1, &luma, &chroma),
-        both(Refusal::Frame)
-    );
-    assert_eq!(
-        corrects(frame, 640, 1, 1, &[3; 32], &chroma),
-        both(Refusal::Context)
-    );
-    assert_eq!(
-        corrects(frame, 640, 1, 1, &luma, &[2; 16]),
-        both(Refusal::Context)
-    );
-    assert_eq!(
-        corrects(frame, 640, 1, 1, &luma[..15], &chroma),
-        both(Refusal::Context)
-    );
-    assert_eq!(
-        corrects(frame, 640, 1, 1, &luma, &chroma[..7]),
-        both(Refusal::Context)
-    );
-    assert_eq!(
-        corrects(frame, 639, 1, 1, &luma, &chroma),
-        both(Refusal::Memory)
-    );
-    assert_eq!(
-        corrects(frame, 640, 2, 1, &luma, &chroma),
-        both(Refusal::Row)
-    );
-    assert_eq!(
-        corrects(frame, 640, 1, 2, &luma, &chroma),
-        [Err(Refusal::Row), Ok(())]
-    );
+    assert_eq!(corrects(|_| {}), [Ok(()); 2]);
+    assert_eq!(corrects(|c| c.frame.superblock = 0), both(Refusal::Shape));
+    assert_eq!(corrects(|c| c.luma = &[3; 32]), both(Refusal::Context));
+    assert_eq!(corrects(|c| c.chroma = &[2; 16]), both(Refusal::Context));
+    assert_eq!(corrects(|c| c.luma = &[2; 15]), both(Refusal::Context));
+    assert_eq!(corrects(|c| c.chroma = &[1; 7]), both(Refusal::Context));
+    assert_eq!(corrects(|c| c.words = 639), both(Refusal::Length));
+    assert_eq!(corrects(|c| c.row = 2), both(Refusal::Outside));
+    let start = [Err(Refusal::Outside), Ok(())];
+    assert_eq!(corrects(|c| c.start = 2), start);
 }

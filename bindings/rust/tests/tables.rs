@@ -21,17 +21,17 @@ fn header() -> Header {
     }
 }
 
-fn level(h: &Header, segment: usize, kind: usize, reference: usize, mode: usize) -> u8 {
+fn level(h: &Header, segment: usize, area: usize, reference: usize, mode: usize) -> u8 {
     let clip = |level: i32| level.clamp(0, 63);
-    if h.base[..2] == [0, 0] || kind > 1 && h.base[kind] == 0 {
+    if h.base[..2] == [0, 0] || area > 1 && h.base[area] == 0 {
         return 0;
     }
-    let lf = h.lf_delta[if h.multi { kind } else { 0 }];
+    let lf = h.lf_delta[if h.multi { area } else { 0 }];
     let seg = match h.segmentation {
-        true => h.seg_delta[4 * segment + kind],
+        true => h.seg_delta[4 * segment + area],
         false => 0,
     };
-    let base = clip(clip(i32::from(h.base[kind]) + i32::from(lf)) + i32::from(seg));
+    let base = clip(clip(i32::from(h.base[area]) + i32::from(lf)) + i32::from(seg));
     if !h.delta_enabled {
         return base as u8;
     }
