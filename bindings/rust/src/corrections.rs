@@ -2,15 +2,15 @@ use crate::ffi;
 use crate::refusal::done;
 use crate::{Frame, Refusal};
 
-/// Corrects the edges at the first column of a tile that is not the frame's first, in superblock row `row`. Each
-/// takes the lesser of its class and its context's.
+/// Corrects the edges at the first column of a tile that is not the frame's first, in superblock row `row`. The class
+/// of each edge becomes the lesser of its own and that in the context.
 ///
-/// The tile starts at superblock `start`, counted from the frame's left side. The contexts `left` and `left_uv` begin
-/// at the superblock row's first unit. They are what the tile on the left had left there after its last block of this
-/// superblock row, before [`Contexts::start_left`](crate::Contexts::start_left) set them anew ([Tiles](crate#tiles)).
+/// The tile starts at superblock `start`, counted from the frame's left side. Lend `left` and `left_uv` from the
+/// superblock row's first unit on, as [`Contexts::at`](crate::Contexts::at) does. They are the bytes that the last
+/// blocks of the neighbouring tile stored there ([Tiles](crate#tiles)).
 ///
-/// Do it after the blocks of the superblock row are recorded, and before both of its passes. If it is forgotten, the
-/// columns are refused with [`Refusal::Gap`] in most frames, but not in all. Start 0 stores nothing.
+/// Call it for each superblock row, after the blocks of the row are recorded and before both of its passes. If it is
+/// forgotten, the columns are refused with [`Refusal::Gap`] in most frames, but not in all. Start 0 stores nothing.
 ///
 /// Refused with [`Refusal::Shape`], [`Refusal::Context`], [`Refusal::Length`] or [`Refusal::Outside`].
 pub fn correct_column(
@@ -40,15 +40,15 @@ pub fn correct_column(
     })
 }
 
-/// Corrects the edges at the top of a tile row that is not the frame's first, along the whole width. Each takes the
-/// lesser of its class and its context's.
+/// Corrects the edges at the top of a tile row that is not the frame's first, along the whole width. The class of each
+/// edge becomes the lesser of its own and that in the context.
 ///
-/// The tile row begins at superblock row `row`. The contexts `above` and `above_uv` begin at the frame's first unit.
-/// They are what the tiles above had left there after their last blocks, before
-/// [`Contexts::start_above`](crate::Contexts::start_above) set them anew ([Tiles](crate#tiles)).
+/// The tile row begins at superblock row `row`. Lend `above` and `above_uv` from the frame's first unit on. They are the
+/// bytes that the last blocks of the tiles above stored there ([Tiles](crate#tiles)).
 ///
-/// Do it after the blocks of the superblock row are recorded, and before both of its passes. If it is forgotten, no
-/// call notices: all answer 0, and samples at the tile's top are wrong. Row 0 stores nothing.
+/// Call it once for each tile row but the first, after the blocks of superblock row `row` are recorded and before both
+/// of its passes. If it is forgotten, no call notices: all are accepted, and samples at the tiles' top are wrong. Row 0
+/// stores nothing.
 ///
 /// Refused with [`Refusal::Shape`], [`Refusal::Context`], [`Refusal::Length`] or [`Refusal::Outside`].
 pub fn correct_row(

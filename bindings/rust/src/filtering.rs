@@ -11,15 +11,15 @@ use crate::{Depth, Frame, Limits, Refusal};
 /// for each frame ([`clear_padding`](Self::clear_padding)).
 #[derive(Debug)]
 pub struct Planes<'a, Sample> {
-    /// This is luma.
+    /// This is the luma plane.
     pub luma: &'a mut [Sample],
-    /// From one line of luma to the next it is this many samples.
+    /// This is the distance between two lines of luma, in samples.
     pub luma_stride: usize,
-    /// This is U.
+    /// This is the U plane.
     pub u: &'a mut [Sample],
-    /// This is V.
+    /// This is the V plane.
     pub v: &'a mut [Sample],
-    /// From one line of U to the next it is this many samples, and in V as many.
+    /// This is the distance between two lines of U, and of V, in samples.
     pub chroma_stride: usize,
 }
 

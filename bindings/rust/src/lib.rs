@@ -27,17 +27,20 @@
 //! let level_stride = frame.w4() as usize;
 //! let (mut bytes, mut masks) = (vec![0; frame.levels_len(level_stride)], vec![0; frame.masks_len()]);
 //! let mut records = Records { levels: &mut bytes, level_stride, masks: &mut masks };
-//! let (above, left) = (&mut [2; 4], &mut [2; 2]);
-//! let mut contexts = Contexts { above, left, above_uv: &mut [], left_uv: &mut [] };
+//! let mut context_bytes = vec![0; frame.contexts_len()];
+//! let mut contexts = Contexts::within(&mut context_bytes, &frame);
+//! contexts.start_above();
+//! contexts.start_left();
 //! for x in [0, 2] {
 //!     let block = Block { x, y: 0, size: BlockSize::Block8x8, tx: TxSize::Tx8x8, chroma: None };
 //!     record_intra(&mut records, values, &frame, &block, &mut contexts.at(&frame, x, 0))?;
 //! }
 //!
 //! let (luma_stride, lines) = frame.stored_luma();
-//! let mut luma = vec![100; luma_stride * lines];
-//! for line in luma.chunks_mut(luma_stride) {
-//!     line[8..].fill(104);
+//! let mut luma = vec![0; luma_stride * lines];
+//! for line in luma.chunks_mut(luma_stride).take(8) {
+//!     line[..8].fill(100);
+//!     line[8..16].fill(104);
 //! }
 //! let pass =
 //!     Pass { frame, levels: &bytes, level_stride, masks: &masks, limits: &limits, level_u: 0, level_v: 0 };
@@ -58,40 +61,42 @@
 //!
 //! The calls cannot notice all of these mistakes.
 //!
-//! - Convert block codes that are dav1d's or rav1d's with [`BlockSize::from_dav1d`].
-//! - Clip the deltas of segments, which a stream may hold at -64: [`segment_delta`].
-//! - Skip a frame whose two luma levels are 0. It is not filtered.
+//! - Convert block codes that are dav1d's or rav1d's with [`BlockSize::from_dav1d`], and add 1 to their reference.
+//! - Narrow the header's deltas with [`delta`], and clip those of segments, which a stream may hold at -64, with
+//!   [`segment_delta`].
+//! - Skip a frame whose two luma levels are both 0.
 //! - Clear the masks for each frame. Recording adds bits and takes none away.
 //! - Clear the padding of the planes for each frame, before it is decoded: [`Planes::clear_padding`].
-//! - Set the contexts anew at the start of each tile, and save before what the corrections need ([Tiles](#tiles)).
+//! - Set `above` to its start values at the top of each tile row, and `left` at the start of each superblock row of each
+//!   tile. Before you do, save what the corrections need ([Tiles](#tiles)).
 //! - Make the corrections of a superblock row before both of its passes.
-//! - Filter the rows of a superblock row after the columns of it and of the row above. Beyond that every order gives
-//!   the same samples.
+//! - Filter the rows of superblock row k after the columns of k and of k - 1. Beyond that every order gives the same
+//!   samples.
 //!
 //! # Tiles
 //!
-//! A context byte is the class of the transform that ends at its unit. It starts anew in each tile: at the tile's top
-//! ([`Contexts::start_above`]), and on its left at the start of each of its superblock rows
-//! ([`Contexts::start_left`]). The corrections need the bytes that stood there before, so save them before you set
-//! them anew:
+//! A context byte is the class of the transform that ends at its unit. In each tile the contexts begin again: `above` at
+//! the tile's top ([`Contexts::start_above`]), and `left` at the start of each of its superblock rows
+//! ([`Contexts::start_left`]). The corrections need the bytes that stood there, so save them before you set them anew:
 //!
 //! - Save `left` and `left_uv` after the last block of each superblock row of a tile. [`correct_column`] takes them,
 //!   for the same superblock row and the tile on the right.
 //! - Save `above` and `above_uv` after the last superblock row of a tile row, along the frame's whole width.
 //!   [`correct_row`] takes them, for the first superblock row of the tile row below.
 //!
-//! Nothing has to be copied if each tile column has a `left` of the frame's height and each tile row has an `above`
-//! of the frame's width. Set `left` anew only from the superblock row's first unit on, then: what stands before it is
-//! still needed (`contexts.at(&frame, 0, y).start_left()`).
+//! Or copy nothing: keep `above` and `above_uv` for each tile row, and `left` and `left_uv` for each tile column, of the
+//! lengths that [`Frame`] gives. The contexts of a tile are then
+//! `Contexts { above: &mut above[tile_row], left: &mut left[tile_column], .. }`, and `left` is set anew only from the
+//! superblock row's first unit y on: `contexts.at(&frame, 0, y).start_left()`.
 //!
 //! [`Refusal::Gap`], number 11, notices a forgotten column correction in most frames. No number notices a forgotten
-//! row correction: the samples are wrong and every call answers 0.
+//! row correction: the samples are wrong and every call is accepted.
 //!
 //! # Threads
 //!
 //! What is said above of orders is proved for calls one after another. Planes, masks and levels are lent to one call
 //! at a time: with this crate, workers that share a frame take turns. The repository's docs/USING.md has a table of
-//! the archive's calls that may be in progress at the same moment. That table is run, and not proved.
+//! the archive's calls that may be in progress at the same moment. That table is checked by runs, and not proved.
 
 #![warn(missing_docs)]
 

@@ -5,10 +5,10 @@ use crate::{BlockSize, Frame, Refusal, TxSize};
 /// The level bytes and masks of a frame, lent to the calls that record.
 #[derive(Debug)]
 pub struct Records<'a> {
-    /// There are four level bytes per luma unit: luma columns, luma rows, U, V. The last two are found by the chroma
-    /// unit. [`Frame::levels_len`] says how many bytes there are.
+    /// There are four level bytes per unit: luma columns, luma rows, U, V. The first two stand at the index of the luma
+    /// unit, and the last two at that of the chroma unit. [`Frame::levels_len`] says how many bytes there are.
     pub levels: &'a mut [u8],
-    /// From one line of `levels` to the next it is this many units, at least [`Frame::w4`].
+    /// This is the distance between two lines of `levels`, in units. It is at least [`Frame::w4`].
     pub level_stride: usize,
     /// There are 640 words for each 128 by 128 samples, in raster order. [`Frame::masks_len`] says how many that are.
     /// Clear them for each frame: recording adds bits and takes none away.
@@ -34,7 +34,7 @@ pub struct Contexts<'a> {
 
 impl<'a> Contexts<'a> {
     /// Parts `bytes` into contexts for the frame's whole width and height. [`Frame::contexts_len`] says how many
-    /// bytes there are. If there are less, the last contexts are too short, and a call that needs more refuses them
+    /// bytes that takes. If there are less, the last contexts are too short, and a call that needs more refuses them
     /// with [`Refusal::Context`].
     pub fn within(bytes: &'a mut [u8], frame: &Frame) -> Contexts<'a> {
         let (above, rest) = part(bytes, frame.above_len());
@@ -61,17 +61,18 @@ impl<'a> Contexts<'a> {
         }
     }
 
-    /// Sets what is lent above to the start of a tile: luma to 2 and chroma to 1. Do it at the top of each tile, over
-    /// the tile's width. Before that, save what the tile above has left there: [`correct_row`](crate::correct_row)
-    /// takes it.
+    /// Sets `above` to 2 and `above_uv` to 1, from the first unit that is lent to the last. Call it once for each tile
+    /// row, before the first block of that tile row, and not for each tile: it would clear what the tiles on the left
+    /// have recorded, and no call notices that. Save first what the tile row above has stored there:
+    /// [`correct_row`](crate::correct_row) takes it.
     pub fn start_above(&mut self) {
         self.above.fill(2);
         self.above_uv.fill(1);
     }
 
-    /// Sets what is lent on the left to the start of a tile: luma to 2 and chroma to 1. Do it at the start of each
-    /// superblock row of each tile. Before that, save what the superblock row before has left there, if a tile is on
-    /// its right: [`correct_column`](crate::correct_column) takes it.
+    /// Sets `left` to 2 and `left_uv` to 1, from the first unit that is lent to the last. Call it at the start of each
+    /// superblock row of each tile. If the tile has a neighbour on the right, save first the bytes of the superblock row
+    /// that was recorded last: [`correct_column`](crate::correct_column) takes them.
     pub fn start_left(&mut self) {
         self.left.fill(2);
         self.left_uv.fill(1);
@@ -95,22 +96,28 @@ pub struct Block {
     pub y: u32,
     /// This is its size.
     pub size: BlockSize,
-    /// This is its luma transform.
+    /// This is its luma transform. For an inter block it is the largest one, before any split: the block's size with
+    /// each side at most 64 (rav1d's `max_ytx`), or 4x4 in a lossless segment.
     pub tx: TxSize,
-    /// This is the transform of its chroma pair, where it has one.
+    /// This is the transform of U and V, or `None` if the block has no chroma (rav1d's `has_chroma`). That is so at
+    /// 4:0:0, and for a block that is 4 wide, or 4 high, at an even unit where chroma is halved that way. A call
+    /// refuses a transform at 4:0:0, and notices no other mistake here.
     pub chroma: Option<TxSize>,
 }
 
 /// What an inter block has besides.
 #[derive(Clone, Copy, Debug, PartialEq, Eq)]
 pub struct Inter {
-    /// These say how its luma transform is split, at depth 0 and 1: bit y*4+x.
+    /// Bit y*4+x of `tx_masks[d]` is set where a transform is split at depth d. x and y count transforms of that depth
+    /// from the block's corner. They are rav1d's `tx_split0` and `tx_split1`.
     pub tx_masks: [u16; 2],
-    /// A skipped block has only its own edges.
+    /// A skipped block has no edges inside. `tx_masks` still count: they decide the classes of its own edges, and what
+    /// it stores in the contexts.
     pub skip: bool,
-    /// This is its reference, 0 to 7. Reference 0 is intra, so the first of the frame's references is 1.
+    /// This is the standard's RefFrame\[0\]: 1 for LAST to 7 for ALTREF, and 0 for intra. In dav1d and rav1d it is
+    /// `ref[0] + 1`. No call notices a mix-up.
     pub reference: u32,
-    /// This says which of the two mode deltas is its own: false for global motion, true for other modes.
+    /// This is `false` for GLOBALMV and GLOBAL_GLOBALMV, and `true` for every other mode.
     pub mode: bool,
 }
 

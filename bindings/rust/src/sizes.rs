@@ -2,8 +2,8 @@ use crate::Refusal;
 
 /// The size of a block, width by height in luma samples. The codes are the standard's.
 ///
-/// A decoder that has dav1d's or rav1d's `BlockSize` converts it with [`from_dav1d`](Self::from_dav1d). No call can
-/// notice that codes of the two kinds were mixed up.
+/// A decoder that has dav1d's or rav1d's `BlockSize` converts it with [`from_dav1d`](Self::from_dav1d). If
+/// codes of the two kinds are mixed up, only some blocks are refused.
 #[allow(missing_docs)]
 #[derive(Clone, Copy, Debug, PartialEq, Eq, Hash)]
 #[repr(u32)]

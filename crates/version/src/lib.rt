@@ -2,7 +2,9 @@
 ghost use mathlib.Core.Path.{_≡_};
 
 const MAJOR: u32 = 0;
+
 const MINOR: u32 = 2;
+
 const PATCH: u32 = 0;
 
 pub fn version() -> u32
