@@ -1,5 +1,6 @@
+# shellcheck shell=sh disable=SC2154
 # The folders of the Rattle kit, found as rt finds them, and its C compiler and linker. To be sourced; root is the repository's folder.
-rt=$(command -v rt) || { echo 'no rt on the PATH' >&2; exit 2; }
+rt=$(command -v rt) || { echo 'there is no rt on the PATH: install the Rattle kit' >&2; exit 2; }
 home=${RATTLE_HOME:-$(dirname "$(dirname "$(readlink -f "$rt")")")}
 own=$home/on/$(uname -m)
 toolchain=$own/toolchain

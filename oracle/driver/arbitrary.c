@@ -11,6 +11,7 @@
 #include "script.h"
 #include "calls.h"
 #include "rooms.h"
+#include "progress.h"
 
 static struct asked asked;
 static u64 made, answers[CALL_COUNT][FORM + 1], wrong[CALL_COUNT];
@@ -91,11 +92,9 @@ int main(int count, char **words) {
     on_signals(stopped);
     make_rooms(&asked, 0);
     for (; made < calls; made++) {
-        if (made % 1000 == 0) alarm(60);
-        if (made % 100000 == 0) dprintf(2, "\rarbitrary: %lu calls", made);
+        if (made % 1000 == 0) alarm(60), tell("arbitrary", made, calls, "calls");
         make_call(&asked, seed);
     }
-    dprintf(2, "\rarbitrary: %lu calls\n", made);
     int is_full = print_table();
     for (int c = 0; c < CALL_COUNT; c++) all_wrong += wrong[c];
     if (!is_full) printf("a number that may be answered never was\n");

@@ -11,6 +11,7 @@
 #include "script.h"
 #include "calls.h"
 #include "rooms.h"
+#include "progress.h"
 #include "table.h"
 #include "watch.h"
 
@@ -221,10 +222,10 @@ int main(int count, char **words) {
     map = mmap(0, ARENA, READ_WRITE, SHARED, file, 0);
     if (!is_watched()) return dprintf(2, "footprints: the emulator's plugin does not answer\n"), 2;
     for (; made < calls; made++) {
-        if (made % 1000 == 0) alarm(600), dprintf(2, "\rfootprints: %lu calls", made);
+        if (made % 1000 == 0) alarm(600);
+        tell("footprints", made, calls, "calls");
         make_call(&asked, seed);
     }
-    dprintf(2, "\rfootprints: %lu calls\n", made);
     for (int c = 0; c < CALL_COUNT; c++)
         is_full &= print_seen(&seen[c], &CALLS[c]), all_wrong += seen[c].wrong;
     if (!is_full) printf("a cell is empty\n");

@@ -10,6 +10,7 @@
 #include "make.h"
 #include "calls.h"
 #include "rooms.h"
+#include "progress.h"
 #include "table.h"
 
 int pthread_create(u64 *, const void *, void *(*)(void *), void *);
@@ -415,15 +416,14 @@ int main(int count, char **words) {
     for (struct test *t = tests; t < tests + test_count; t++) {
         now = t;
         alarm(600);
-        dprintf(2, "\rthreads: case %lu of %d", t - tests + 1, test_count);
         state = seed + (t - tests);
         while (t->rounds < rounds) {
+            tell("threads", (t - tests) * rounds + t->rounds, test_count * rounds, "rounds");
             if (t->words) take_tiles(t);
             else if (!take_pair(t)) continue;
             try(t, least(AGAIN, rounds - t->rounds));
         }
     }
-    dprintf(2, "\n");
     for (struct test *t = tests; t < tests + test_count; t++) {
         printf("%lu rounds, %lu at the same moment, %lu differ: ", t->rounds, t->together, t->differ);
         print_case(t);

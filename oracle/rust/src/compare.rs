@@ -9,6 +9,9 @@ use std::time::{Duration, Instant};
 /// How long a program may be silent before it is ended.
 const PATIENCE: Duration = Duration::from_secs(60);
 
+/// How often a run says how far it is.
+const PROGRESS: Duration = Duration::from_secs(10);
+
 /// How many bytes go through a pipe at once.
 pub const BATCH: usize = 1 << 16;
 
@@ -38,8 +41,9 @@ pub fn compare(part: &dyn Part, count: Count, seed: u64, program: &[String]) -> 
         let mut printed = Instant::now();
         loop {
             match heard.recv_timeout(PATIENCE) {
-                Ok(cases) if printed.elapsed().as_secs() >= 1 => {
-                    eprint!("\r{}: {cases} cases", part.name());
+                Ok(cases) if printed.elapsed() >= PROGRESS => {
+                    let [done, all] = [cases, run.all()].map(grouped);
+                    eprintln!("{}: {done} of {all} cases", part.name());
                     printed = Instant::now();
                 }
                 Ok(_) => {}
@@ -55,7 +59,6 @@ pub fn compare(part: &dyn Part, count: Count, seed: u64, program: &[String]) -> 
     });
     let status = child.wait().map_err(|error| error.to_string())?;
     let tally = tally?;
-    eprintln!("\r{}: {} cases", part.name(), tally.cases());
     fed.map_err(|error| format!("the program does not read its cases: {error}"))?;
     if !status.success() {
         return Err(format!("the program ended with {status}"));
@@ -69,7 +72,23 @@ pub fn compare(part: &dyn Part, count: Count, seed: u64, program: &[String]) -> 
     Ok(())
 }
 
+/// With a comma after every thousand.
+fn grouped(number: u64) -> String {
+    match number {
+        0..=999 => number.to_string(),
+        _ => format!("{},{:03}", grouped(number / 1000), number % 1000),
+    }
+}
+
 impl Run<'_> {
+    /// How many cases there are.
+    fn all(self) -> u64 {
+        match self.count {
+            Count::All => self.part.all().map_or(0, |all| all.len() as u64),
+            Count::First(count) => count,
+        }
+    }
+
     fn feed(self, to: ChildStdin) -> io::Result<()> {
         let mut to = BufWriter::with_capacity(BATCH, to);
         for case in self.part.cases(self.count, self.seed) {
