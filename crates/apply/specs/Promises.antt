@@ -41,6 +41,6 @@ pub record Promised (c : Call) (l : Limits) (m : Lent) (r : ℕ) (after : Three 
   pub v-stays : ¬ Filtered c 2 → after .v ≡ m .v
 
 pub record Promises : Type 0 where
-  -- two answers that the contract admits coincide
+  -- uniqueness: two answers that the contract admits are equal
   pub unique : (c : Call) (l : Limits) (m : Lent) (r q : ℕ) (a b : Three (List ℕ)) → FilterAnswer c l m r a → FilterAnswer c l m q b → (r ≡ q) × (a ≡ b)
   pub each : (c : Call) (l : Limits) (m : Lent) (r : ℕ) (after : Three (List ℕ)) → FilterAnswer c l m r after → Promised c l m r after

@@ -62,7 +62,7 @@ pub record Promised (t : Start) (context context-uv : List ℕ) (r : ℕ) (befor
       → isSet after x ≡ isSet before x
 
 pub record Promises : Type 0 where
-  -- two answers that the contract admits coincide
+  -- uniqueness: two answers that the contract admits are equal
   pub unique : (t : Start) (context context-uv : List ℕ) (r q : ℕ) (before m n : List ℕ)
       → CorrectAnswer t context context-uv r before m → CorrectAnswer t context context-uv q before n → (r ≡ q) × (m ≡ n)
   pub each : (t : Start) (context context-uv : List ℕ) (r : ℕ) (before after : List ℕ)

@@ -58,7 +58,7 @@ pub record Promised (layout : ℕ) (x : LevelsIn) (r : ℕ) (before after : List
   pub small : r ≡ 0 → (s k q m : ℕ) → Place x s k q m → byte after s k q m ≤ 63
 
 pub record Promises : Type 0 where
-  -- two answers that the contract admits coincide
+  -- uniqueness: two answers that the contract admits are equal
   pub unique : (layout : ℕ) (x : LevelsIn) (before : List ℕ) (r q : ℕ) (a b : List ℕ)
       → LevelsAnswer layout x r before a → LevelsAnswer layout x q before b → (r ≡ q) × (a ≡ b)
   pub each : (layout : ℕ) (x : LevelsIn) (r : ℕ) (before after : List ℕ)

@@ -26,7 +26,7 @@ pub record Promised (s r : ℕ) (before after : Av1FilterLUT) : Type 0 where
   pub cap-0 : s ≡ 0 → getD (after .sharp) 1 0 ≡ 255
 
 pub record Promises : Type 0 where
-  -- two answers that a contract admits coincide: by value, in a lent table, in three lent arrays
+  -- uniqueness: two answers that a contract admits are equal, by value, in a lent table and in three lent arrays
   pub unique : (s : ℕ) (r q : LimitAnswer) → r ≡ limitsOf s → q ≡ limitsOf s → r ≡ q
   pub unique-lent : (s r q : ℕ) (before a b : Av1FilterLUT) → LimitsLent s r before a → LimitsLent s q before b → (r ≡ q) × (a ≡ b)
   pub unique-arrays : (s r q : ℕ) (before : Av1FilterLUT) (e i w e′ i′ w′ : List ℕ) → LimitsLent s r before (lut e i w) → LimitsLent s q before (lut e′ i′ w′)

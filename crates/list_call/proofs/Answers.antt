@@ -1,4 +1,4 @@
--- The promises, from Lines, Runs, Drawn and Rooms; two answers coincide, both being those of the definition.
+-- The promises, from Lines, Runs, Drawn and Rooms; two answers are equal, both being those of the definition.
 use mathlib.Core.Bool.{cond}
 use mathlib.Core.Path.{_≡_, sym, ap, _∙_}
 use mathlib.Core.List.{List}

@@ -54,7 +54,7 @@ pub record Stops (ls : List (List ℕ)) (l n : ℕ) : Type 0 where
   pub fault : ¬ (n ≡ 0)
 
 pub record Promises : Type 0 where
-  -- two answers that the contract admits coincide
+  -- uniqueness: two answers that the contract admits are equal
   pub unique : (script : List ℕ) (n m : ℕ) (before a b : List ℕ)
       → ListAnswer script n before a → ListAnswer script m before b → (n ≡ m) × (a ≡ b)
   -- the room suffices, for every script that a slice can hold

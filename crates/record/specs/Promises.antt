@@ -24,7 +24,7 @@ pub record Promised (b : Block) (level-stride : ℕ) (values tm : List ℕ) (r :
   pub accepted : r ≡ 0 → Stored b level-stride values tm before after
 
 pub record Promises : Type 0 where
-  -- two answers that the contract admits coincide
+  -- uniqueness: two answers that the contract admits are equal
   pub unique : (b : Block) (level-stride : ℕ) (values tm : List ℕ) (r q : ℕ) (before m n : Lent)
       → RecordAnswer b level-stride values tm r before m → RecordAnswer b level-stride values tm q before n → (r ≡ q) × (m ≡ n)
   pub each : (b : Block) (level-stride : ℕ) (values tm : List ℕ) (r : ℕ) (before after : Lent)
