@@ -1,6 +1,7 @@
-// dav1d's C on a frame.
+// dav1d on a frame: its C, or its assembly where it has one.
 #include "config.h"
 
+#include "src/cpu.h"
 #include "src/internal.h"
 #include "src/lf_mask.h"
 #include "frame.h"
@@ -23,6 +24,14 @@ static u8 edges[2][16384];
 
 static u32 records(const struct frame *f) { return f->head->masks / WORDS; }
 
+// C reads the limit tables; the assembly has the sharpness, if they are one's.
+static void set_limits(const struct head *h) {
+    Av1FilterLUT *lut = &context.lf.lim_lut;
+    dav1d_calc_eih(lut, h->i[63] == 63 ? 0 : 9 - h->i[63]);
+    memcpy(lut->e, h->e, 64);
+    memcpy(lut->i, h->i, 64);
+}
+
 static void prepare(struct frame *f) {
     const struct step *s = f->steps;
     Dav1dFrameContext *c = &context;
@@ -30,6 +39,8 @@ static void prepare(struct frame *f) {
     header.loopfilter.level_u = s->level_u;
     header.loopfilter.level_v = s->level_v;
     header.tiling.col_start_sb[1] = 65535; // no other tile
+    dav1d_init_cpu();
+    dav1d_set_cpu_flags_mask(~DAV1D_X86_CPU_FLAG_AVX512ICL); // the emulator has none
     if (f->head->is_wide) dav1d_loop_filter_dsp_init_16bpc(&dsp.lf);
     else dav1d_loop_filter_dsp_init_8bpc(&dsp.lf);
     c->seq_hdr = &sequence;
@@ -48,8 +59,7 @@ static void prepare(struct frame *f) {
     c->lf.level = (u8(*)[4])f->levels;
     if (!c->lf.mask) c->lf.mask = calloc(records(f), sizeof(Av1Filter));
     for (u32 n = 0; n < records(f); n++) memcpy(c->lf.mask + n, f->masks + WORDS * n, 2 * WORDS);
-    memcpy(c->lf.lim_lut.e, f->head->e, 64);
-    memcpy(c->lf.lim_lut.i, f->head->i, 64);
+    set_limits(f->head);
     c->lf.tx_lpf_right_edge[0] = edges[0];
     c->lf.tx_lpf_right_edge[1] = edges[1];
 }

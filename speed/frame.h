@@ -1,35 +1,6 @@
-// A frame for counting, as `oracle speed make` writes it (oracle/FORMATS.md), and its memory, which `main` makes fresh
-// twice. The program that includes this says how its side holds it (`prepare`, `finish`) and does the work that is
-// counted: `filter` or `record`, the second time or both times.
-#include <stdint.h>
-#include <stdio.h>
-#include <stdlib.h>
-#include <string.h>
-
-typedef uint8_t u8;
-typedef uint16_t u16;
-typedef uint32_t u32;
-
-struct head {
-    u32 length, is_wide, levels, masks, planes[3], steps;
-    u8 e[64], i[64];
-};
-
-// Kind 2 is columns, 3 rows.
-struct step {
-    u32 kind, width, height, layout, superblock, row, start, depth, level_u, level_v;
-    u32 levels, masks, planes[3];
-    u16 contexts[2];
-    uint64_t stride, luma_stride, chroma_stride, padding;
-};
-
-// `code` is the size's number in dav1d.
-struct block {
-    u16 x, y, tx_masks[2];
-    u8 size, code, tx, uvtx, inter, chroma, skip, mode, reference, segment, padding[2];
-};
-
-_Static_assert(sizeof(struct head) == 160 && sizeof(struct step) == 96 && sizeof(struct block) == 20, "as written");
+// The memory of a frame for counting, which `main` makes fresh twice. The program that includes this says how its side
+// holds it (`prepare`, `finish`) and does the work that is counted: `filter` or `record`, the second time or both times.
+#include "format.h"
 
 struct frame {
     const struct head *head;
@@ -50,11 +21,6 @@ static void filter(struct frame *);
 static void record(struct frame *);
 static void finish(struct frame *);
 
-static void fail(const char *why) {
-    fprintf(stderr, "%s\n", why);
-    exit(1);
-}
-
 static u8 *read_file(const char *name) {
     FILE *file = fopen(name, "rb");
     if (!file || fseek(file, 0, SEEK_END)) fail("no such file");
@@ -66,9 +32,16 @@ static u8 *read_file(const char *name) {
     return bytes;
 }
 
-// The contexts start again: all of them with the frame, those on the left with every row of superblocks, which are of 64.
+// As dav1d's assembly wants planes.
+static void *aligned(size_t size) {
+    void *memory;
+    if (posix_memalign(&memory, 64, size)) fail("no memory");
+    return memory;
+}
+
+// The contexts start again: all of them with the frame, those on the left with every row of superblocks.
 static void start_contexts(struct frame *f, const struct block *b) {
-    if (b->x || b->y % 16) return;
+    if (b->x || b->y % 16 || (b->y % 32 && f->steps->superblock == 128)) return;
     for (int n = 0; n < 4; n++)
         if (n % 2 || !b->y) memset(f->contexts[n], n < 2 ? 2 : 1, f->context_lengths[n]);
 }
@@ -87,10 +60,9 @@ int main(int count, char **words) {
     f.blocks_count = counts[0];
     f.values = (const u8(*)[64])(counts + 2);
     f.blocks = (const struct block *)(f.values + counts[1]);
-    f.levels = malloc(f.head->levels);
+    f.levels = malloc(f.head->levels + 128 * f.steps->stride); // dav1d's assembly looks at 32 more lines of units
     f.masks = malloc(2 * f.head->masks);
-    u8 *all = malloc(samples);
-    f.planes[0] = all;
+    u8 *all = f.planes[0] = aligned(samples);
     f.planes[1] = all + size * f.head->planes[0];
     f.planes[2] = all + size * (f.head->planes[0] + f.head->planes[1]);
     const size_t across = (f.steps->width + 3) / 4 + 32;
