@@ -39,7 +39,7 @@ enum deblock_number {
     DEBLOCK_LEVEL_BYTE = 8, // a level byte is above 63
     DEBLOCK_PLANE = 9,      // a plane is too short, its stride is below the stored width, or a sample is above the maximum
     DEBLOCK_OUTSIDE = 10,   // the superblock row or the tile start lies outside the frame
-    DEBLOCK_GAP = 11,       // two edges lie too close together for their classes (01: an edge breaks the gap rule)
+    DEBLOCK_GAP = 11,       // an edge breaks the gap rule: it lies too close to another edge or to a boundary for its class
     DEBLOCK_MASK_BIT = 12   // a mask bit lies outside the frame, or outside the bits that its half may hold
 };
 // DEBLOCK_GAP comes most often from masks that were not cleared, from a forgotten deblock_correct_column, or from contexts

@@ -37,7 +37,7 @@ static inline const char *deblock_text(uint32_t number) {
     case DEBLOCK_LEVEL_BYTE: return "a level byte is above 63";
     case DEBLOCK_PLANE: return "a plane is too short, its stride is less than the stored width, or a sample is above the depth's maximum";
     case DEBLOCK_OUTSIDE: return "the superblock row or the tile start lies outside the frame";
-    case DEBLOCK_GAP: return "an edge breaks the gap rule: two edges lie too close together for their classes";
+    case DEBLOCK_GAP: return "an edge breaks the gap rule: it lies too close to another edge or to a boundary for its class";
     case DEBLOCK_MASK_BIT: return "a mask bit lies outside the frame, or outside the bits that its half may hold";
     default: return "no number of this version";
     }

@@ -91,7 +91,7 @@ impl fmt::Display for Refusal {
             Self::Plane => "a plane is too short, its stride is less than the stored width, or a sample is above the depth's maximum",
             Self::Outside => "the superblock row or the tile start lies outside the frame",
             Self::Gap => {
-                "an edge breaks the gap rule: two edges lie too close together for their classes"
+                "an edge breaks the gap rule: it lies too close to another edge or to a boundary for its class"
             }
             Self::MaskBit => "a mask bit lies outside the frame, or outside the bits that its half may hold",
         })
