@@ -1,7 +1,8 @@
-// threads COUNT SEED: two threads make calls at the same moment, COUNT times for each case: the blocks of
-// two tiles that meet in a 128x128 record, and every pair of calls that the second table of docs/USING.md
-// lets run together, which is written here a second time. What the threads leave must be what the calls
-// leave in turn. It ends in a table of the cases.
+// threads COUNT SEED: two threads make calls at the same moment, COUNT times for each case, and more often
+// until more than half of COUNT were truly at the same moment. A case is the blocks of two tiles that meet
+// in a 128x128 record, or a pair of calls that the second table of docs/USING.md lets run together, which is
+// written here a second time. What the threads leave must be what the calls leave in turn. It ends in a
+// table of the cases.
 
 #include "call.h"
 #include "libc.h"
@@ -399,7 +400,7 @@ static void try(struct test *t, u64 rounds) {
 // ---- the run
 
 int main(int count, char **words) {
-    enum { AGAIN = 8 };
+    enum { AGAIN = 8, MOST = 4 };
     if (count != 3) return 2;
     u64 rounds = strtoul(words[1], 0, 10), seed = strtoul(words[2], 0, 10), all = 0, differ = 0, thread;
     int is_full = 1;
@@ -417,18 +418,18 @@ int main(int count, char **words) {
         now = t;
         alarm(600);
         state = seed + (t - tests);
-        while (t->rounds < rounds) {
-            tell("threads", (t - tests) * rounds + t->rounds, test_count * rounds, "rounds");
+        while (t->rounds < rounds || (t->together <= rounds / 2 && t->rounds < MOST * rounds)) {
+            tell("threads", (t - tests) * rounds + least(t->rounds, rounds), test_count * rounds, "rounds");
             if (t->words) take_tiles(t);
             else if (!take_pair(t)) continue;
-            try(t, least(AGAIN, rounds - t->rounds));
+            try(t, t->rounds < rounds ? least(AGAIN, rounds - t->rounds) : AGAIN);
         }
     }
     for (struct test *t = tests; t < tests + test_count; t++) {
         printf("%lu rounds, %lu at the same moment, %lu differ: ", t->rounds, t->together, t->differ);
         print_case(t);
         printf("\n");
-        is_full &= t->together > t->rounds / 2;
+        is_full &= t->together > rounds / 2;
         all += t->rounds;
         differ += t->differ;
     }
