@@ -11,13 +11,13 @@ ghost use Rattle.standard.specs.Level.{baseFilterLevel, lvlSeg, lvlDelta, shl, 
 ghost use Rattle.loops.specs.Flag.{on};
 ghost use Rattle.deltas.specs.Deltas.{delta, outside};
 
-fn biased(d: i8) -> u32
+pub fn biased(d: i8) -> u32
     ensures { λ r. ⌜ (subℕ r 128 ≡ d) × (r < 256) ⌝ }
 {
     (d as i32 + 128) as u32
 }
 
-fn is_outside(d: i8, low: u32) -> bool
+pub fn is_outside(d: i8, low: u32) -> bool
     requires { ⌜ low ≤ 128 ⌝ }
     ensures { λ r. ⌜ r ≡ outside low d ⌝ }
 {
