@@ -1,0 +1,2 @@
+pub mod Unfits
+pub mod Fits

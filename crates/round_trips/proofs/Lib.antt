@@ -1,0 +1,10 @@
+pub mod Steps
+pub mod Numerals
+pub mod Updates
+pub mod Printing
+pub mod Streams
+pub mod Listed
+pub mod Answers
+pub mod Taken
+pub mod Example
+pub mod Kept
