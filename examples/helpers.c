@@ -140,8 +140,12 @@ static void deltas(const struct deblock_frame *frame) {
 
 static void numbers(const struct deblock_frame *frame) {
     hold(deblock_version() == DEBLOCK_VERSION, "version", frame);
-    for (uint32_t one = 0; one <= 13; one++)
-        for (uint32_t other = 0; other < one; other++) hold(strcmp(deblock_text(one), deblock_text(other)) != 0, "text", frame);
+    static const uint32_t named[] = {0, 1, 2, 3, 4, 5, 6, 7, 8, 9, 10, 11, 12, DEBLOCK_BITS, DEBLOCK_UNWRITABLE};
+    for (size_t one = 0; one < 15; one++) {
+        hold(strcmp(deblock_text(named[one]), deblock_text(13)) != 0, "a number's text", frame);
+        for (size_t other = 0; other < one; other++)
+            hold(strcmp(deblock_text(named[one]), deblock_text(named[other])) != 0, "text", frame);
+    }
 }
 
 int main(void) {

@@ -2,10 +2,10 @@
 // calls with structs, and the lengths of everything that is lent: begin there.
 //
 // Every call returns on all input, keeps no state and checks its own arguments. It answers a number (deblock_list answers
-// a length, deblock_version the version): 0 when it is done, another when it refuses. docs/01-scope.md says exactly when
-// each number is given ("Numbers returned"). If several hold, the lowest is given. A call that refuses has stored nothing.
-// What a call answers and stores is its contract in crate `deblock`, and the contract is proved (docs/CONTRACTS.md). C
-// leaves this to the caller:
+// a length, deblock_version the version): 0 when it is done, another when it refuses. docs/SPECIFICATION.md says exactly
+// when each number is given. If several hold, the lowest is given, except that 24 comes before 23. A call that refuses has
+// stored nothing. What a call answers and stores is its contract in crate `deblock`, and the contract is proved
+// (docs/CONTRACTS.md). C leaves this to the caller:
 //   A pointer is aligned and not null, even if its length is 0.
 //   It has as many elements behind it as its length says, or as the number in brackets.
 //   What is lent to a call and is not const overlaps nothing else that is lent to the same call.
@@ -24,7 +24,7 @@ extern "C" {
 #endif
 
 // 10000 * major + 100 * minor + patch. deblock_version answers the archive's own: compare the two when you start.
-#define DEBLOCK_VERSION 200
+#define DEBLOCK_VERSION 300
 uint32_t deblock_version(void);
 
 enum deblock_number {
@@ -40,7 +40,9 @@ enum deblock_number {
     DEBLOCK_PLANE = 9,      // a plane is too short, its stride is below the stored width, or a sample is above the maximum
     DEBLOCK_OUTSIDE = 10,   // the superblock row or the tile start lies outside the frame
     DEBLOCK_GAP = 11,       // an edge breaks the gap rule: it lies too close to another edge or to a boundary for its class
-    DEBLOCK_MASK_BIT = 12   // a mask bit lies outside the frame, or outside the bits that its half may hold
+    DEBLOCK_MASK_BIT = 12,  // a mask bit lies outside the frame, or outside the bits that its half may hold
+    DEBLOCK_BITS = 23,      // the bytes end before the parameters do: bits run out in reading, or room in writing
+    DEBLOCK_UNWRITABLE = 24 // no bits with these update choices read back as these values
 };
 // DEBLOCK_GAP comes most often from masks that were not cleared, from a forgotten deblock_correct_column, or from contexts
 // that did not begin at the block. A half is one of the two mask words of a class at a unit: it holds 16 units, or 8 where
@@ -105,6 +107,41 @@ static const uint8_t deblock_block_of_dav1d[22] = {
 // superblock row that begins, since the others are still needed. Correct a superblock row after its blocks are recorded
 // and before both of its passes. DEBLOCK_GAP notices a forgotten deblock_correct_column in most frames. No call notices a
 // forgotten deblock_correct_row, or contexts that were not set anew.
+
+// The loop filter parameters of a frame header (5.9.11 of the standard), read from its bits and written into them. Places
+// count bits: place 0 is the highest bit of byte 0, place 7 its lowest, place 8 the highest bit of byte 1. The parameters
+// begin at place `at`. count is how many bits were read or written: 0, or 16 to 109. A refusal leaves it as it was, too.
+//   planes             the standard's NumPlanes. Above 1 there is chroma.
+//   lossless, intrabc  flags, the standard's CodedLossless and allow_intrabc
+//   level              luma columns, luma rows, U and V, each 0 to 63. deblock_levels takes them as base.
+//   bits               sharpness, 0 to 7, then delta_enabled and delta_update, 0 or 1
+//   update             0 or 1 for each delta, 1 if it is in the bits: eight references, then two modes
+//   ref_delta          of INTRA, LAST, LAST2, LAST3, GOLDEN, BWDREF, ALTREF2 and ALTREF. In the bits it is -64 to 63.
+//   mode_delta         of the two modes. In the bits it is -64 to 63.
+// The deltas before are those that the primary reference frame ended with. Without one (primary_ref_frame 7) they are the
+// defaults: 1, 0, 0, 0, -1, 0, -1, -1 by reference, and 0, 0 by mode. Any deltas before are taken.
+//
+// Reading takes the deltas before in ref_delta and mode_delta, and leaves the new ones there. A delta that is not in the
+// bits stays as before. All else that is not in the bits is 0. The levels of U and V are not in them if both luma levels
+// are 0, or if planes is at most 1. With lossless or intrabc no bits are read, and the deltas become the defaults. Refuses
+// with 23. When done, all six arrays are filled.
+uint32_t deblock_read_params(const uint8_t *bytes, size_t bytes_len, size_t at, uint32_t planes, uint32_t lossless,
+                             uint32_t intrabc, uint8_t level[4], uint8_t bits[3], uint8_t update[10],
+                             int8_t ref_delta[8], int8_t mode_delta[2], uint32_t count[1]);
+
+// Writing takes the values that reading leaves, and beside them the deltas before, in ref_before and mode_before. Refuses
+// with 24 if no bits with these updates read back as these values, else with 23 if there is no room. With lossless or
+// intrabc no bits are written, and 24 is given unless the deltas are the defaults and all else is 0. Without them 24 is
+// given if one of these holds:
+//   A value is out of its range. A delta that is not in the bits has none.
+//   delta_update is 1 without delta_enabled, or an update is 1 without delta_update.
+//   A level of U or V is not 0 and not in the bits.
+//   A delta that is not in the bits differs from the one before.
+// When done, the bits and count are stored. Every other bit of the bytes is as before.
+uint32_t deblock_write_params(uint8_t *bytes, size_t bytes_len, size_t at, uint32_t planes, uint32_t lossless,
+                              uint32_t intrabc, const int8_t ref_before[8], const int8_t mode_before[2],
+                              const uint8_t level[4], const uint8_t bits[3], const uint8_t update[10],
+                              const int8_t ref_delta[8], const int8_t mode_delta[2], uint32_t count[1]);
 
 // The limits of each level: e and i are the standard's blimit and limit, sharp is the shift and the cap. No call reads
 // sharp: rav1d has it for its assembly. Refuses with 1. When done, all three arrays are filled.

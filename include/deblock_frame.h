@@ -4,6 +4,7 @@
 // this file only hands on what it is given. `examples/run` tests it. examples/frame.c is a whole frame:
 //
 //   once                     deblock_version() == DEBLOCK_VERSION
+//   for each frame header    deblock_fill_params, unless the decoder reads the loop filter parameters itself
 //   for each frame           deblock_clear_padding; clear the masks; deblock_fill_limits; deblock_fill_levels
 //   for each tile row        deblock_start_above
 //   for each tile, and each of its superblock rows
@@ -13,10 +14,11 @@
 //                            deblock_tile_column for each tile start but the first; deblock_tile_row if a tile row starts
 //                            there; deblock_columns; deblock_rows
 //
-// The names of deblock.h for these are deblock_limits, deblock_levels, deblock_record_intra and deblock_record_inter,
-// deblock_correct_column and deblock_correct_row, deblock_columns_8 or _16, and deblock_rows_8 or _16. They answer the same
-// numbers. Start each struct from zeros, as `struct deblock_frame frame = {.width = 1920, .height = 1080, ...}` does. The
-// pointers in deblock_records, deblock_contexts and deblock_planes may be null: the length then counts as 0.
+// The names of deblock.h for these are deblock_read_params, deblock_limits, deblock_levels, deblock_record_intra and
+// deblock_record_inter, deblock_correct_column and deblock_correct_row, deblock_columns_8 or _16, and deblock_rows_8 or _16.
+// An encoder has deblock_put_params for deblock_write_params. They answer the same numbers. Start each struct from zeros, as
+// `struct deblock_frame frame = {.width = 1920, .height = 1080, ...}` does. The pointers in deblock_records,
+// deblock_contexts and deblock_planes, and the bytes of a header, may be null: the length then counts as 0.
 #ifndef DEBLOCK_FRAME_H
 #define DEBLOCK_FRAME_H
 
@@ -39,6 +41,8 @@ static inline const char *deblock_text(uint32_t number) {
     case DEBLOCK_OUTSIDE: return "the superblock row or the tile start lies outside the frame";
     case DEBLOCK_GAP: return "an edge breaks the gap rule: it lies too close to another edge or to a boundary for its class";
     case DEBLOCK_MASK_BIT: return "a mask bit lies outside the frame, or outside the bits that its half may hold";
+    case DEBLOCK_BITS: return "the bytes end before the parameters do";
+    case DEBLOCK_UNWRITABLE: return "no bits with these update choices read back as these values";
     default: return "no number of this version";
     }
 }
@@ -147,6 +151,70 @@ static inline uint32_t deblock_fill_levels(uint8_t *values, const struct deblock
 
 // The 64 level values of a segment, 0 to 7. Without segmentation it is segment 0: the others are not written.
 static inline const uint8_t *deblock_segment(const uint8_t *values, uint32_t segment) { return values + 64 * (segment % 8); }
+
+// The loop filter parameters of a frame header, as deblock_read_params leaves them.
+struct deblock_params {
+    uint8_t level[4], sharpness, delta_enabled, delta_update, update_ref[8], update_mode[2];
+    int8_t ref_delta[8], mode_delta[2];
+};
+
+// What reading and writing them must know. These deltas are the deltas before.
+struct deblock_params_given {
+    uint32_t planes, lossless, intrabc;
+    int8_t ref_delta[8], mode_delta[2];
+};
+
+// What is given for a frame header, with both flags 0. reference has the parameters of the primary reference frame. It is
+// null where there is none: the deltas before are then the defaults.
+static inline struct deblock_params_given deblock_params_after(const struct deblock_params *reference, uint32_t planes) {
+    struct deblock_params_given given = {planes, 0, 0, {1, 0, 0, 0, -1, 0, -1, -1}, {0, 0}};
+    if (!reference) return given;
+    memcpy(given.ref_delta, reference->ref_delta, sizeof given.ref_delta);
+    memcpy(given.mode_delta, reference->mode_delta, sizeof given.mode_delta);
+    return given;
+}
+
+// deblock_fill_params reads the parameters from place `at` of the bytes on, and deblock_put_params writes them there. A place
+// counts bits from the highest bit of byte 0. count is how many bits were read or written, and may be null. A refusal stores
+// nothing.
+static inline uint32_t deblock_fill_params(const uint8_t *bytes, size_t len, size_t at,
+                                           const struct deblock_params_given *given, struct deblock_params *params,
+                                           uint32_t *count) {
+    struct deblock_params p;
+    uint8_t none[1] = {0}, bits[3], update[10];
+    uint32_t unread[1], number;
+    memcpy(p.ref_delta, given->ref_delta, sizeof p.ref_delta);
+    memcpy(p.mode_delta, given->mode_delta, sizeof p.mode_delta);
+    number = deblock_read_params(bytes ? bytes : none, bytes ? len : 0, at, given->planes, given->lossless, given->intrabc,
+                                 p.level, bits, update, p.ref_delta, p.mode_delta, count ? count : unread);
+    if (number) return number;
+    p.sharpness = bits[0], p.delta_enabled = bits[1], p.delta_update = bits[2];
+    memcpy(p.update_ref, update, sizeof p.update_ref);
+    memcpy(p.update_mode, update + sizeof p.update_ref, sizeof p.update_mode);
+    *params = p;
+    return DEBLOCK_DONE;
+}
+static inline uint32_t deblock_put_params(uint8_t *bytes, size_t len, size_t at, const struct deblock_params_given *given,
+                                          const struct deblock_params *params, uint32_t *count) {
+    uint8_t none[1] = {0}, update[10], bits[3] = {params->sharpness, params->delta_enabled, params->delta_update};
+    uint32_t unread[1];
+    memcpy(update, params->update_ref, sizeof params->update_ref);
+    memcpy(update + sizeof params->update_ref, params->update_mode, sizeof params->update_mode);
+    return deblock_write_params(bytes ? bytes : none, bytes ? len : 0, at, given->planes, given->lossless, given->intrabc,
+                                given->ref_delta, given->mode_delta, params->level, bits, update, params->ref_delta,
+                                params->mode_delta, count ? count : unread);
+}
+
+// What deblock_fill_levels takes of the parameters. What else a header has is 0.
+static inline struct deblock_header deblock_header_of(const struct deblock_params *params) {
+    struct deblock_header header;
+    memset(&header, 0, sizeof header);
+    memcpy(header.base, params->level, sizeof header.base);
+    header.delta_enabled = params->delta_enabled;
+    memcpy(header.ref_delta, params->ref_delta, sizeof header.ref_delta);
+    memcpy(header.mode_delta, params->mode_delta, sizeof header.mode_delta);
+    return header;
+}
 
 // The level bytes and masks of a frame.
 struct deblock_records {

@@ -4,6 +4,38 @@
 extern "C" {
     pub fn deblock_version() -> u32;
 
+    pub fn deblock_read_params(
+        bytes: *const u8,
+        bytes_len: usize,
+        at: usize,
+        planes: u32,
+        lossless: u32,
+        intrabc: u32,
+        level: &mut [u8; 4],
+        bits: &mut [u8; 3],
+        update: &mut [u8; 10],
+        ref_delta: &mut [i8; 8],
+        mode_delta: &mut [i8; 2],
+        count: &mut [u32; 1],
+    ) -> u32;
+
+    pub fn deblock_write_params(
+        bytes: *mut u8,
+        bytes_len: usize,
+        at: usize,
+        planes: u32,
+        lossless: u32,
+        intrabc: u32,
+        ref_before: &[i8; 8],
+        mode_before: &[i8; 2],
+        level: &[u8; 4],
+        bits: &[u8; 3],
+        update: &[u8; 10],
+        ref_delta: &[i8; 8],
+        mode_delta: &[i8; 2],
+        count: &mut [u32; 1],
+    ) -> u32;
+
     pub fn deblock_limits(
         e: &mut [u8; 64],
         i: &mut [u8; 64],

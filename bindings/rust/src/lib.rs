@@ -1,7 +1,7 @@
 //! The deblocking filter of AV1, verified: a safe interface to the archive of crate `deblock`. Every call of the
-//! archive is proved to end on all input, to answer its number exactly when document 01 of the repository says so,
-//! and to give the samples of section 7.14 of the standard. What is proved is the archive. This crate passes slices
-//! to it. A test holds the crate's declarations to the archive's source.
+//! archive is proved to end on all input, to answer its number exactly when the repository's docs/SPECIFICATION.md says
+//! so, and to give the samples of section 7.14 of the standard and the header values of section 5.9.11. What is proved
+//! is the archive. This crate passes slices to it. A test holds the crate's declarations to the archive's source.
 //!
 //! A frame goes through these calls:
 //!
@@ -10,8 +10,11 @@
 //! 3. [`correct_column`] and [`correct_row`] correct the edges at the start of each tile.
 //! 4. [`columns_8`] and [`rows_8`], or [`columns_16`] and [`rows_16`], filter each superblock row.
 //!
-//! [`list`] lists the edges of a script's blocks. The program `examples/frame.rs` takes a frame of four tiles through
-//! all of this. `cargo run --example frame` runs it.
+//! The program `examples/frame.rs` takes a frame of four tiles through all of this. `cargo run --example frame` runs
+//! it.
+//!
+//! [`Params::read`] reads the loop filter parameters of a frame header from its bits, for a decoder that does not do so
+//! itself, and [`Params::write`] writes them. [`list`] lists the edges of a script's blocks.
 //!
 //! ```
 //! use deblock::*;
@@ -62,8 +65,9 @@
 //! The calls cannot notice all of these mistakes.
 //!
 //! - Convert block codes that are dav1d's or rav1d's with [`BlockSize::from_dav1d`], and add 1 to their reference.
-//! - Narrow the header's deltas with [`delta`], and clip those of segments, which a stream may hold at -64, with
-//!   [`segment_delta`].
+//! - Give [`Params::read`] the deltas of the primary reference frame, and set its flags `lossless` and `intrabc`.
+//! - If your decoder reads the header itself, narrow its deltas with [`delta`]. Clip those of segments, which a stream
+//!   may hold at -64, with [`segment_delta`].
 //! - Skip a frame whose two luma levels are both 0.
 //! - Clear the masks for each frame. Recording adds bits and takes none away.
 //! - Clear the padding of the planes for each frame, before it is decoded: [`Planes::clear_padding`].
@@ -105,6 +109,7 @@ mod ffi;
 mod filtering;
 mod frame;
 mod listing;
+mod params;
 mod recording;
 mod refusal;
 mod sizes;
@@ -115,6 +120,7 @@ pub use corrections::{correct_column, correct_row};
 pub use filtering::{columns_16, columns_8, rows_16, rows_8, Pass, Planes};
 pub use frame::{Depth, Frame, Layout};
 pub use listing::list;
+pub use params::{Params, ParamsGiven};
 pub use recording::{record_inter, record_intra, Block, Contexts, Inter, Records};
 pub use refusal::Refusal;
 pub use sizes::{BlockSize, TxSize};

@@ -1,9 +1,9 @@
 use std::error::Error;
 use std::fmt;
 
-/// Why a call was refused. The numbers are those of document 01, and the names are those of the archive's source and
-/// of the C header. A call gives a number exactly when what it says holds. If several hold, the lowest is given. A
-/// refused call has stored nothing.
+/// Why a call was refused. The numbers are those of the repository's docs/SPECIFICATION.md, and the names are those of
+/// the archive's source and of the C header. A call gives a number exactly when what it says holds. If several hold,
+/// the lowest is given, except that `Unwritable` comes before `Bits`. A refused call has stored nothing.
 #[derive(Clone, Copy, Debug, PartialEq, Eq, Hash)]
 #[repr(u32)]
 pub enum Refusal {
@@ -41,11 +41,16 @@ pub enum Refusal {
     /// A mask bit of this superblock row lies outside the frame, or outside the bits that its half may hold. Masks
     /// that were not cleared can do this.
     MaskBit = 12,
+    /// The bytes end before the parameters do: bits run out in reading, or room in writing.
+    Bits = 23,
+    /// No bits with these update choices read back as these values. [`Params::write`](crate::Params::write) says which
+    /// values these are.
+    Unwritable = 24,
 }
 
 impl Refusal {
     /// This is every refusal, in the order of the numbers.
-    pub const ALL: [Refusal; 12] = [
+    pub const ALL: [Refusal; 14] = [
         Refusal::Sharpness,
         Refusal::Level,
         Refusal::Depth,
@@ -58,9 +63,11 @@ impl Refusal {
         Refusal::Outside,
         Refusal::Gap,
         Refusal::MaskBit,
+        Refusal::Bits,
+        Refusal::Unwritable,
     ];
 
-    /// Answers the number of document 01, 1 to 12.
+    /// Answers the number, 1 to 12, 23 or 24.
     pub fn number(self) -> u32 {
         self as u32
     }
@@ -94,6 +101,8 @@ impl fmt::Display for Refusal {
                 "an edge breaks the gap rule: it lies too close to another edge or to a boundary for its class"
             }
             Self::MaskBit => "a mask bit lies outside the frame, or outside the bits that its half may hold",
+            Self::Bits => "the bytes end before the parameters do",
+            Self::Unwritable => "no bits with these update choices read back as these values",
         })
     }
 }
@@ -104,6 +113,6 @@ impl Error for Refusal {}
 pub(crate) fn done(number: u32) -> Result<(), Refusal> {
     match number {
         0 => Ok(()),
-        _ => Err(Refusal::try_from(number).expect("the archive answers 0 to 12")),
+        _ => Err(Refusal::try_from(number).expect("the archive answers 0 or a refusal's number")),
     }
 }

@@ -1,17 +1,18 @@
-//! Each number of document 01, given where it says so, with nothing stored.
+//! Each number of document 01, given where it says so, with nothing stored. `params.rs` has those of document 02.
 
 use deblock::*;
 
 #[test]
 fn numbers_and_words() {
-    for (number, refusal) in (1..).zip(Refusal::ALL) {
+    for (number, refusal) in (1..=12).chain(23..=24).zip(Refusal::ALL) {
         assert_eq!(refusal.number(), number);
         assert_eq!(Refusal::try_from(number), Ok(refusal));
     }
-    assert_eq!(Refusal::try_from(0), Err(0));
-    assert_eq!(Refusal::try_from(13), Err(13));
+    for number in [0, 13, 22, 25] {
+        assert_eq!(Refusal::try_from(number), Err(number));
+    }
     let words: std::collections::HashSet<_> = Refusal::ALL.map(|r| r.to_string()).into();
-    assert_eq!(words.len(), 12);
+    assert_eq!(words.len(), 14);
 }
 
 #[test]

@@ -1,4 +1,4 @@
-// The numbers that a call returns, as document 01 gives them; of several the lowest.
+// The numbers that a call returns, as document 01 and the requests of document 02 give them; of several the lowest, but UNWRITABLE before BITS.
 
 // done
 pub const DONE: u32 = 0;
@@ -38,6 +38,12 @@ pub const GAP: u32 = 11;
 
 // a mask bit outside the frame, or outside the bits its half may hold
 pub const MASK_BIT: u32 = 12;
+
+// bits run out in reading, or room in writing
+pub const BITS: u32 = 23;
+
+// no bits with the given update choices read back as the writer's values
+pub const UNWRITABLE: u32 = 24;
 
 // No number: a line of a script has no such form, and `list` prints the word `form` for it. No request gives this value out.
 pub const FORM: u32 = 1000;
