@@ -1,10 +1,12 @@
 // arbitrary COUNT SEED: makes COUNT calls of the archive, with numbers and buffers from the seed. A call is
 // wrong if it answers another number than number.h, changes a byte beside what is lent or of what it only
-// reads, or changes anything and does not answer 0; the listing, if its length or what it leaves in `out` is
-// not that of list.h. It ends in a table of the answers.
+// reads, or changes anything and does not answer 0. The listing is wrong if its length or what it leaves in
+// `out` is not that of list.h, and a call for a header's parameters if what it leaves is not that of
+// params.h. It ends in a table of the answers.
 
 #include "call.h"
 #include "libc.h"
+#include "params.h"
 #include "number.h"
 #include "list.h"
 #include "make.h"
@@ -27,9 +29,14 @@ static void stopped(int signal) {
     exit(1);
 }
 
-// What the call must answer; a listing for which there is room is put where the call must leave it.
+// What the call must answer. What it must leave is put where it was before: a listing for which there is
+// room, and a header's parameters or bits.
 static size_t expect(struct asked *a) {
-    if (a->call->kind != LIST) return number(a);
+    if (a->call->kind != LIST) {
+        u32 answer = number(a);
+        if (answer == 0 && is_params(a->call)) leave_params(a);
+        return answer;
+    }
     if (listing.length <= a->out.length) memcpy(a->out.before, listing.at, listing.length);
     return listing.length;
 }
@@ -50,7 +57,8 @@ static void make_call(struct asked *a, u64 seed) {
         if (!(lent >> n & 1)) continue;
         struct lent *l = &a->lent[n];
         if (is_beside(l, rooms[0][n])) fault = "answered %lu and changed bytes beside what is lent;";
-        if ((answer || a->call->reads >> n & 1) && memcmp(l->at, l->before, l->length * l->size))
+        int is_known = answer || a->call->reads >> n & 1 || is_params(a->call);
+        if (is_known && memcmp(l->at, l->before, l->length * l->size))
             fault = "answered %lu and left other bytes than it must;";
     }
     size_t said = a->call->kind == LIST ? listing.number : answer;
@@ -64,8 +72,15 @@ static int may_answer(const struct call *c, u32 number) {
     return number == 0;
 }
 
+static int may_be_answered(u32 number) {
+    for (int c = 0; c < CALL_COUNT; c++)
+        if (may_answer(&CALLS[c], number)) return 1;
+    return 0;
+}
+
 // Prints how often a call answered a number; whether it ever did, if it may.
 static int print_count(int c, u32 number) {
+    if (!may_be_answered(number)) return 1;
     if (!may_answer(&CALLS[c], number)) return printf("%8s", "-"), 1;
     printf("%8lu", answers[c][number]);
     return answers[c][number] > 0;
@@ -75,7 +90,8 @@ static int print_count(int c, u32 number) {
 static int print_table(void) {
     int is_full = 1;
     printf("%-15s%9s", "call", "calls");
-    for (u32 n = 0; n <= HIGHEST; n++) printf("%8u", n);
+    for (u32 n = 0; n <= HIGHEST; n++)
+        if (may_be_answered(n)) printf("%8u", n);
     printf("%8s%8s\n", "form", "wrong");
     for (int c = 0; c < CALL_COUNT; c++) {
         printf("%-15s%9lu", CALLS[c].name, (made + CALL_COUNT - 1 - c) / CALL_COUNT);

@@ -9,13 +9,15 @@ typedef uint64_t u64;
 typedef unsigned __int128 u128;
 
 // By value, those of 64 bits first, and lent memory, slices first.
-#define STRIDES stride, luma_stride, chroma_stride
+#define STRIDES stride, luma_stride, chroma_stride, place
 #define WORDS                                                                                            \
     sharpness, layout, delta_enabled, multi, segmentation, width, height, x, y, block, tx, uvtx, chroma, \
-        skip, reference, mode, superblock, row, start, depth, level_u, level_v
-#define SLICES luma, u, v, levels, masks, above, left, above_uv, left_uv, script, out
-#define TABLES values, tx_masks, e, i, sharp, base, ref_delta, mode_delta, lf_delta, seg_delta
-enum { SIZES = 3, VALUES = 25, LENGTHS = 11, BUFFERS = 21 };
+        skip, reference, mode, superblock, row, start, depth, level_u, level_v, planes, lossless, intrabc
+#define SLICES luma, u, v, levels, masks, above, left, above_uv, left_uv, script, out, header
+#define TABLES                                                                                     \
+    values, tx_masks, e, i, sharp, base, ref_delta, mode_delta, lf_delta, seg_delta, bits, update, \
+        ref_before, mode_before, count
+enum { SIZES = 4, VALUES = 29, LENGTHS = 12, BUFFERS = 27 };
 
 // `length` elements of `size` bytes, as they were and as the call has them.
 struct lent {
@@ -39,7 +41,7 @@ struct asked {
     };
 };
 
-enum kind { LIMITS, LEVELS, RECORD, CORRECT, FILTER, LIST };
+enum kind { READ_PARAMS, WRITE_PARAMS, LIMITS, LEVELS, RECORD, CORRECT, FILTER, LIST };
 
 struct call {
     const char *name;
@@ -54,6 +56,8 @@ struct call {
 #define LENT(name) \
     (1u << (offsetof(struct asked, name) - offsetof(struct asked, lent)) / sizeof(struct lent))
 #define offsetof __builtin_offsetof
+
+static int is_params(const struct call *c) { return c->kind <= WRITE_PARAMS; }
 
 static u8 *bytes(const struct lent *l) { return l->before; }
 static u16 *words(const struct lent *l) { return l->before; }

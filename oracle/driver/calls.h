@@ -45,6 +45,17 @@ static size_t ask_rows_16(const struct asked *a) { return deblock_rows_16(PASS_F
 
 static size_t ask_list(const struct asked *a) { return deblock_list(SLICE(script), SLICE(out)); }
 
+#define PARAMS_FIRST SLICE(header), a->place, a->planes, a->lossless, a->intrabc
+#define PARAMS_LAST a->base.at, a->bits.at, a->update.at, a->ref_delta.at, a->mode_delta.at, a->count.at
+
+static size_t ask_read_params(const struct asked *a) {
+    return deblock_read_params(PARAMS_FIRST, PARAMS_LAST);
+}
+
+static size_t ask_write_params(const struct asked *a) {
+    return deblock_write_params(PARAMS_FIRST, a->ref_before.at, a->mode_before.at, PARAMS_LAST);
+}
+
 #define HEADER               \
     LEVELS, 0, 0, 0, {2, 4}, \
         LENT(base) | LENT(ref_delta) | LENT(mode_delta) | LENT(lf_delta) | LENT(seg_delta), LENT(values)
@@ -56,6 +67,7 @@ static size_t ask_list(const struct asked *a) { return deblock_list(SLICE(script
 #define PASS(rows, wide, ...)                                     \
     FILTER, rows, 0, wide, {__VA_ARGS__, 4, 7, 8, 9, 10, 11, 12}, \
         LENT(levels) | LENT(masks) | LENT(e) | LENT(i), LENT(luma) | LENT(u) | LENT(v)
+#define PARAMS (LENT(base) | LENT(bits) | LENT(update) | LENT(ref_delta) | LENT(mode_delta))
 
 static const struct call CALLS[] = {
     {"limits", LIMITS, 0, 0, 0, {1}, 0, LENT(e) | LENT(i) | LENT(sharp), ask_limits},
@@ -69,12 +81,16 @@ static const struct call CALLS[] = {
     {"columns_16", PASS(0, 1, 2, 3), ask_columns_16},
     {"rows_16", PASS(1, 1, 2, 3), ask_rows_16},
     {"list", LIST, 0, 0, 0, {1, 2, 3, 4, 5, FORM}, LENT(script), LENT(out), ask_list},
+    {"read_params", READ_PARAMS, 0, 0, 0, {23}, LENT(header), PARAMS | LENT(count), ask_read_params},
+    {"write_params", WRITE_PARAMS, 0, 0, 0, {24, 23}, PARAMS | LENT(ref_before) | LENT(mode_before),
+     LENT(header) | LENT(count), ask_write_params},
 };
 enum { CALL_COUNT = sizeof CALLS / sizeof *CALLS };
 
 static void set_sizes(struct asked *a) {
-    static const u8 SIZE[BUFFERS] = {1, 1, 1, 1, 2, 1, 1, 1, 1, 1, 1, 1, 2, 1, 1, 8, 1, 1, 1, 1, 1};
-    static const u8 LENGTH[BUFFERS] = {[LENGTHS] = 64, 2, 64, 64, 2, 4, 8, 2, 4, 32};
+    static const u8 SIZE[BUFFERS] = {1, 1, 1, 1, 2, 1, 1, 1, 1, 1, 1, 1, 1, 2,
+                                     1, 1, 8, 1, 1, 1, 1, 1, 1, 1, 1, 1, 4};
+    static const u8 LENGTH[BUFFERS] = {[LENGTHS] = 64, 2, 64, 64, 2, 4, 8, 2, 4, 32, 3, 10, 8, 2, 1};
     for (int n = 0; n < BUFFERS; n++) {
         a->lent[n].size = n < 3 && a->call->is_wide ? 2 : SIZE[n];
         a->lent[n].length = LENGTH[n];
@@ -106,6 +122,25 @@ static void print_name(int n) {
     print_word(names);
 }
 
+static void print_bytes(const char *what, const u8 *at, size_t count) {
+    printf("%s", what);
+    for (size_t n = 0; n < count && n < 64; n++) printf("%02x", at[n]);
+    if (count > 64) printf("..");
+}
+
+// Of each lent array what `before` has, and what it has now where that is something else.
+static void print_contents(const struct asked *a) {
+    for (int n = 0; n < BUFFERS; n++) {
+        const struct lent *l = &a->lent[n];
+        size_t size = l->length * l->size;
+        if (!((a->call->reads | a->call->writes) >> n & 1)) continue;
+        print_name(n);
+        print_bytes(" ", l->before, size);
+        if (memcmp(l->before, l->at, size)) print_bytes(", now ", l->at, size);
+        printf("\n");
+    }
+}
+
 static void print_arguments(const struct asked *a) {
     const char *names = NAMES(STRIDES, WORDS);
     for (int n = 0; n < VALUES; n++) names = print_named(names, a->value[n]);
@@ -114,4 +149,5 @@ static void print_arguments(const struct asked *a) {
     for (int n = 0; n < BUFFERS; n++) names = print_named(names, a->lent[n].length);
     printf("\n");
     if (a->call->kind == LIST) printf("%.*s\n", (int)a->script.length, bytes(&a->script));
+    if (is_params(a->call)) print_contents(a);
 }

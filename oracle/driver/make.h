@@ -82,6 +82,9 @@ static void take_values(struct asked *a) {
     a->delta_enabled = any_flag();
     a->multi = any_flag();
     a->segmentation = any_flag();
+    a->planes = PICK(0, 1, 2, 3, 3, 3, any_word());
+    a->lossless = once_in(8) ? any_flag() : 0;
+    a->intrabc = once_in(8) ? any_flag() : 0;
 }
 
 static size_t more(void) { return PICK(0, 0, 0, 1, below(40)); }
@@ -96,6 +99,8 @@ static void take_lengths(struct asked *a) {
     a->luma.length = a->luma_stride * q.high + more();
     a->u.length = a->chroma_stride * uv.high + more();
     a->v.length = a->chroma_stride * uv.high + more();
+    a->place = 0;
+    a->header.length = 14 + below(50); // 112 bits or more
     if (planes_filtered(a) == 1) {
         a->chroma_stride = any_size();
         a->u.length = below(64);
@@ -122,6 +127,42 @@ static void mend_header(struct asked *a) {
             int delta = (int8_t)bytes(l)[n] >> 1;
             bytes(l)[n] = delta == -64 && l > &a->mode_delta ? -63 : delta;
         }
+}
+
+// Parameters that bits can say, made of arbitrary ones.
+static int mended_delta(const struct asked *a, struct params *p, int n, size_t sent) {
+    p->update[n] = p->delta_update && below(10) < sent;
+    return p->update[n] ? (int)PICK(p->delta[n] >> 1, p->delta[n] >> 1, -64, 63) : delta_before(a, n);
+}
+
+static struct params mended(const struct asked *a) {
+    struct params p = lent_params(a);
+    size_t sent = below(11);
+    for (int n = 0; n < 4; n++) p.level[n] = n < 2 && once_in(4) ? 0 : p.level[n] % 64;
+    if (!has_chroma_levels(a, &p)) p.level[2] = p.level[3] = 0;
+    p.sharpness %= 8;
+    p.delta_enabled = !once_in(4);
+    p.delta_update = p.delta_enabled && !once_in(4);
+    for (int n = 0; n < 10; n++) p.delta[n] = mended_delta(a, &p, n, sent);
+    return p;
+}
+
+// The place, so that there is room for so many bits, and most often no more than is needed.
+static void take_room(struct asked *a, size_t count) {
+    size_t spare = 8 * a->header.length - count;
+    a->place = PICK(below(8), below(spare + 1), spare, spare - below(least(spare + 1, 9)));
+    if (count == 0 && once_in(2)) a->place = any_size();
+    else if (once_in(2)) a->header.length = (a->place + count + 7) / 8;
+}
+
+// Reading is most often given bits of such parameters, and else any.
+static void mend_params(struct asked *a) {
+    struct bits none = {0};
+    struct params p = has_no_bits(a) ? parsed_params(a, &none) : mended(a);
+    take_room(a, a->call->kind == READ_PARAMS && once_in(4) ? 109 : bits_written(a, &p));
+    struct bits b = bits_from(a);
+    if (a->call->kind == WRITE_PARAMS) lay_params(a, &p);
+    else if (!once_in(4)) put_params(a, &b, &p);
 }
 
 static void mend_contexts(struct asked *a) {
@@ -179,6 +220,7 @@ static void take_accepted(struct asked *a) {
     take_values(a);
     take_lengths(a);
     take_contents(a);
+    if (is_params(a->call)) mend_params(a);
     if (a->call->kind == LEVELS) mend_header(a);
     if (a->call->kind == RECORD || a->call->kind == CORRECT) mend_contexts(a);
     if (a->call->kind == FILTER) {
@@ -299,10 +341,33 @@ static void fault_12(struct asked *a) {
     }
 }
 
+static void fault_23(struct asked *a) {
+    struct params p = lent_params(a);
+    struct bits b = bits_from(a);
+    size_t count = a->call->kind == READ_PARAMS ? parsed_params(a, &b), b.taken : bits_written(a, &p);
+    size_t end = 8 * a->header.length, near = end - count + below(2);
+    if (once_in(2)) return cut(&a->header);
+    a->place = PICK(near, end - below(count + 1), end + below(200), any_size(), ~below(200));
+}
+
+static void fault_24(struct asked *a) {
+    size_t n = below(10);
+    struct lent *deltas = n < 8 ? &a->ref_delta : &a->mode_delta;
+    int before = delta_before(a, n);
+    switch (below(6)) {
+    case 0: set_byte(&a->base, below(4), PICK(0, 1, 63, 64, 255)); break;
+    case 1: set_byte(&a->bits, below(3), PICK(0, 1, 2, 7, 8, 255)); break;
+    case 2: set_byte(&a->update, n, PICK(0, 1, 2, 255)); break;
+    case 3: set_byte(deltas, n % 8, PICK(0, 63, 64, -64, -65, before, before + 1, next())); break;
+    case 4: a->planes = PICK(0, 1, 2, 3); break;
+    case 5: *(once_in(2) ? &a->lossless : &a->intrabc) = any_flag();
+    }
+}
+
 static void take_faults(struct asked *a, size_t count) {
     static void (*const fault[HIGHEST + 1])(struct asked *) = {
         0,       fault_1, fault_2, fault_3,  fault_4,  fault_5,  fault_6,
-        fault_7, fault_8, fault_9, fault_10, fault_11, fault_12,
+        fault_7, fault_8, fault_9, fault_10, fault_11, fault_12, [23] = fault_23, fault_24,
     };
     u32 chosen = 0, numbers = 0;
     while (a->call->numbers[numbers]) numbers++;

@@ -1,5 +1,5 @@
-// The number that document 01 asks for: given_n is row n of its table, whose words stand above it, for a
-// call that no row above gives a number.
+// The number that docs/SPECIFICATION.md asks for: given_n is row n of its table, whose words stand above
+// it, for a call that no row before gives a number.
 
 struct size {
     long wide, high;
@@ -310,13 +310,53 @@ static int given_12(const struct asked *a) {
     return 0;
 }
 
-enum { HIGHEST = 12 };
+// a bit that is read, or written, lies at or past 8 times the length
+static int given_23(const struct asked *a) {
+    struct bits b = bits_from(a);
+    if (a->call->kind == READ_PARAMS) return parsed_params(a, &b), b.has_run_out;
+    struct params p = lent_params(a);
+    u32 count = bits_written(a, &p);
+    return count > 0 && b.place + count > 8 * (u128)a->header.length;
+}
 
-// Several at once: the lowest number.
+// with lossless or intra block copy: any level, sharpness, delta_enabled, delta_update or update bit not
+// 0, or a delta other than the default
+static int is_not_default(const struct params *p) {
+    int any = p->sharpness | p->delta_enabled | p->delta_update;
+    for (int n = 0; n < 4; n++) any |= p->level[n];
+    for (int n = 0; n < 10; n++) any |= p->update[n] | (p->delta[n] != DEFAULT_DELTA[n]);
+    return any;
+}
+
+// an update bit above 1; an update bit with delta_update 0; a delta sent outside -64..63; a delta not sent
+// that differs from the one before
+static int is_delta_unsaid(const struct asked *a, const struct params *p, int n) {
+    if (p->update[n] == 0) return p->delta[n] != delta_before(a, n);
+    return p->update[n] > 1 || p->delta_update == 0 || p->delta[n] < -64 || p->delta[n] > 63;
+}
+
+// else any of: a level above 63; level[2] or level[3] not 0 where step 2 is not taken; sharpness above 7;
+// delta_enabled or delta_update above 1; delta_update with delta_enabled 0; a delta as above
+static int given_24(const struct asked *a) {
+    struct params p = lent_params(a);
+    if (has_no_bits(a)) return is_not_default(&p);
+    for (int n = 0; n < 4; n++)
+        if (p.level[n] > 63) return 1;
+    if ((p.level[2] || p.level[3]) && !has_chroma_levels(a, &p)) return 1;
+    if (p.sharpness > 7 || p.delta_enabled > 1 || p.delta_update > 1) return 1;
+    if (p.delta_update && !p.delta_enabled) return 1;
+    for (int n = 0; n < 10; n++)
+        if (is_delta_unsaid(a, &p, n)) return 1;
+    return 0;
+}
+
+enum { HIGHEST = 24 };
+
+// Several at once: the first in the call's order, which is the lowest, but for 24 before 23.
 static u32 number(const struct asked *a) {
     static int (*const given[HIGHEST + 1])(const struct asked *) = {
         0,       given_1, given_2, given_3,  given_4,  given_5,  given_6,
-        given_7, given_8, given_9, given_10, given_11, given_12,
+        given_7, given_8, given_9, given_10, given_11, given_12, [23] = given_23, given_24,
     };
     for (const u8 *n = a->call->numbers; *n; n++)
         if (given[*n](a)) return *n;

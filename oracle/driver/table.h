@@ -142,6 +142,34 @@ static void let_filter(struct table *t, const struct asked *a, u32 number) {
     let_all(t, a, &a->i, LOAD);
 }
 
+// ---- a header's parameters
+
+// The bytes that hold bits from the call's place on, so many of them.
+static void let_bits(struct table *t, const struct asked *a, u32 count, u8 what) {
+    if (count == 0 || a->place / 8 >= a->header.length) return;
+    let(t, a, &a->header, a->place / 8, (a->place % 8 + count + 7) / 8, what);
+}
+
+// Reading takes bits until it is done, or they run out.
+static void let_read_params(struct table *t, const struct asked *a, u32 number) {
+    struct bits b = bits_from(a);
+    parsed_params(a, &b);
+    let_bits(t, a, b.taken, LOAD);
+    let_all(t, a, &a->ref_delta, LOAD);
+    let_all(t, a, &a->mode_delta, LOAD);
+    for (int n = 0; n < BUFFERS; n++)
+        if (number == 0 && a->call->writes >> n & 1) let_all(t, a, &a->lent[n], STORE);
+}
+
+static void let_write_params(struct table *t, const struct asked *a, u32 number) {
+    struct params p = lent_params(a);
+    for (int n = 0; n < BUFFERS; n++)
+        if (a->call->reads >> n & 1) let_all(t, a, &a->lent[n], LOAD);
+    if (number) return;
+    let_bits(t, a, bits_written(a, &p), LOAD | STORE);
+    let_all(t, a, &a->count, STORE);
+}
+
 // ---- every call
 
 static void let_levels(struct table *t, const struct asked *a, u32 number) {
@@ -167,6 +195,8 @@ static void fill_table(struct table *t, struct asked *a, size_t answer) {
             memset(t->may[n], 0, a->lent[n].length * a->lent[n].size);
     if (a->call->kind == RECORD) memset(t->block, 0, a->masks.length * a->masks.size);
     switch (a->call->kind) {
+    case READ_PARAMS: let_read_params(t, a, answer); break;
+    case WRITE_PARAMS: let_write_params(t, a, answer); break;
     case LIMITS:
         if (answer == 0) let_limits(t, a);
         break;

@@ -6,6 +6,7 @@
 
 #include "call.h"
 #include "libc.h"
+#include "params.h"
 #include "number.h"
 #include "list.h"
 #include "make.h"
