@@ -24,6 +24,7 @@ use Rattle.round_trips.specs.Promises.{SizedGiven, Sized, Says, Writable
 use Rattle.params.specs.declared.ParamsAnswer.{ParamsAnswer}
 use Rattle.params_unfit.proofs.Fits.{fit-on}
 use Rattle.params_lay.proofs.Layings.{length-few, length-printed}
+use Rattle.round_trips.proofs.Counts.{print-bits}
 use Rattle.round_trips.proofs.Listed.{exactly-unwritable}
 use Rattle.params.proofs.Numbers.{length-places, read-off, fit-bits}
 use Rattle.round_trips.proofs.Printing.{Parsed, parse-prints, parse-reads}
@@ -113,6 +114,7 @@ module _ (g : Given) (bytes : List ℕ) (at : ℕ) (sg : SizedGiven g) where
     done = done-of (length all) (parse g all);
     off = λ e. ap (λ (a : ParamsAnswer). a .number) (is-read ∙ read-off g bytes at e);
     value = λ z. (said z .rest, said z .says, omega (arith, said z .count, long z));
+    table = λ z. count-is z ∙ print-bits g (answer .params) (parsed z .fits);
     counted = counted;
     refused = refused-of (length all) (parse g all);
   }
@@ -223,6 +225,7 @@ module _ (g : Given) (p : Params) (at r n : ℕ) (before after : List ℕ) (sg :
     short = short;
     done = done;
     refused = refused;
+    table = λ z. count-of z ∙ print-bits g p (number .is-0 .only z .0);
     bits = λ z. (print g p, says-print (number .is-0 .only z .0), sym (count-of z), standing z);
     long = kept-long;
     in-front = in-front;

@@ -4,6 +4,7 @@ pub mod Updates
 pub mod Printing
 pub mod Streams
 pub mod Listed
+pub mod Counts
 pub mod Answers
 pub mod Taken
 pub mod Example

@@ -4,6 +4,8 @@
 --   Writable g p              some bits say p
 --   DeltaFault                what is wrong with one update bit u, where delta_update is m, and its delta, which was b before
 --   Unwritable g p            what number 24 refuses, one by one
+--   ones us n                 how many of the first n update bits are 1
+--   bitsOf g p                how many bits the steps of 5.9.11 take
 --   ReadPromised              of an answer of `read`
 --   WritePromised             of an answer of `write`: its number, its count, and the bytes before and after
 --   Promises                  of all
@@ -12,7 +14,7 @@ use mathlib.Core.List.{List, [], _∷_}
 use mathlib.Core.Logic.{_⊎_}
 use mathlib.Core.Option.{some, none}
 use mathlib.Core.Path.{_≡_}
-use Prim.Native.Nat.{ℕ, _+_, _-_, _*_, _<_, _≤_}
+use Prim.Native.Nat.{ℕ, zero, suc, _+_, _-_, _*_, _<_, _≤_}
 use lib.Dec.{eqb}
 use lib.IntN.{ℤ}
 use lib.ListN.{length, getD, replicate}
@@ -72,6 +74,20 @@ pub data Unwritable (g : Given) (p : Params) : Type 0 where
   ref-fault : isOff g ≡ false → (i : ℕ) → i < 8 → DeltaFault (p .«delta_update») (getD (p .«update_ref») i 0) (delta (g .refs) i) (delta (p .«ref_delta») i) → Unwritable g p
   mode-fault : isOff g ≡ false → (i : ℕ) → i < 2 → DeltaFault (p .«delta_update») (getD (p .«update_mode») i 0) (delta (g .modes) i) (delta (p .«mode_delta») i) → Unwritable g p
 
+abbrev pub ones : List ℕ → ℕ → ℕ
+ones us zero = 0
+ones us (suc i) = ones us i + getD us i 0
+
+-- levels, chroma levels, sharpness and delta_enabled, delta_update, update bits and the deltas that they send
+abbrev pub bitsOf : Given → Params → ℕ
+bitsOf g p =
+    cond (isOff g) 0
+    (12
+    + cond (hasChroma (g .planes) (getD (p .level) 0 0) (getD (p .level) 1 0)) 12 0
+    + 4
+    + p .«delta_enabled»
+    + cond (eqb (p .«delta_update») 1) (10 + 7 * (ones (p .«update_ref») 8 + ones (p .«update_mode») 2)) 0)
+
 pub record ReadPromised (g : Given) (bytes : List ℕ) (at : ℕ) (a : ParamsAnswer) : Type 0 where
   -- the numbers, exactly when; so never 23 where no bits are sent
   pub short : Exactly (a .number ≡ 23) (parse g (bitsFrom bytes at) ≡ none)
@@ -79,6 +95,7 @@ pub record ReadPromised (g : Given) (bytes : List ℕ) (at : ℕ) (a : ParamsAns
   pub off : isOff g ≡ true → a .number ≡ 0
   -- the parameters and the count of bits are the standard's
   pub value : a .number ≡ 0 → (rest : List Bit) × Says g (bitsFrom bytes at) (a .params) rest × (a .count + length rest ≡ length (bitsFrom bytes at))
+  pub table : a .number ≡ 0 → a .count ≡ bitsOf g (a .params)
   pub counted : a .number ≡ 0 → ((isOff g ≡ true) × (a .count ≡ 0)) ⊎ ((isOff g ≡ false) × (16 ≤ a .count) × (a .count ≤ 109))
   -- a refusal tells nothing else
   pub refused : a .number ≡ 23 → (a .count ≡ 0) × (a .params ≡ noParams)
@@ -92,6 +109,7 @@ pub record WritePromised (g : Given) (p : Params) (at r n : ℕ) (before after :
   -- a refusal stores nothing
   pub refused : ¬ (r ≡ 0) → (after ≡ before) × (n ≡ 0)
   -- the bits are those that say p, and every other bit is as before
+  pub table : r ≡ 0 → n ≡ bitsOf g p
   pub bits : r ≡ 0 → (bs : List Bit) × Says g bs p [] × (length bs ≡ n) × (places (bitAt after) at n ≡ bs)
   pub long : length after ≡ length before
   pub in-front : (q : ℕ) → q < at → bitAt after q ≡ bitAt before q
