@@ -9,10 +9,10 @@ use native.Mathlib.Omega.{arith}
 use borrow.Author.Tests.{lt-ltb, le-ltb, eq-eqb, ne-eqb}
 use lib.Dec.{eqb, ltb}
 use lib.IntN.{ℤ, pos, negsuc, natAbs}
-use lib.ListN.{length, getD, drop, List·getD-append}
+use lib.ListN.{length, getD, drop}
 use lib.Seq.{getD-append-add, getD-drop}
 use Rattle.loops.specs.Table.{tabulate}
-use Rattle.loops.proofs.Tables.{length-tabulate, getD-tabulate}
+use Rattle.loops.proofs.Tables.{length-tabulate, getD-filled}
 use Rattle.loops.specs.Flag.{on}
 use Rattle.standard.specs.Math.{Clip3}
 use Rattle.standard.specs.Level.{baseFilterLevel, lvlSeg, lvlDelta, filterLevel}
@@ -34,8 +34,7 @@ behind f n l i h =
 module _ (x : LevelsIn) (l : List ℕ) where
   front : (i : ℕ) → i < written x → getD (levelsDone x l) i 0 ≡ byteAt x i
   unfolding levelsDone
-  front i h =
-      List·getD-append (tabulate (byteAt x) (written x)) (drop (written x) l) 0 i (rw length-tabulate h) ∙ getD-tabulate (byteAt x) (written x) i h
+  front = getD-filled (byteAt x) (drop (written x) l) (written x)
 
   pub from-64 : x .segmentation ≡ 0 → (i : ℕ) → 64 ≤ i → getD (levelsDone x l) i 0 ≡ getD l i 0
   unfolding levelsDone

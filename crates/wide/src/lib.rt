@@ -1,186 +1,97 @@
-// The wide filters of one line, 7.14.6.4.
+// The wide filters of one line, 7.14.6.4. The standard's position i is place 8 + i, and its tap j is tap n + j.
 ghost use mathlib.Core.Path.{_≡_};
-ghost use mathlib.Core.List.{[], _∷_};
-ghost use Prim.Native.Nat.{_+_, _-_, _*_, _/_, _≤_};
+ghost use Prim.Native.Nat.{ℕ, _+_, _-_, _*_, _^_, _<_, _≤_};
+ghost use lib.IntN.{pos, natAbs};
 ghost use lib.ListN.{getD};
-ghost use Rattle.standard.specs.Math.{sumTo};
-ghost use Rattle.standard.specs.Wide.{tap, wide};
-ghost use Rattle.line.specs.Place.{of, make};
+ghost use Rattle.standard.specs.Math.{Round2, clip, sumTo};
+ghost use Rattle.standard.specs.Wide.{tap, wideAt};
+ghost use Rattle.line.specs.Place.{of};
+ghost use Rattle.line.specs.Width.{Same};
 use line::LineSamples;
 
-fn tap5(a0: u16, a1: u16, a2: u16, a3: u16, a4: u16) -> u16
-    ensures { λ r. ⌜ r ≡ (sumTo (λ j. tap 2 1 j * getD (a0 ∷ a1 ∷ a2 ∷ a3 ∷ a4 ∷ []) j 0) 5 + 4) / 8 ⌝ }
+// The weight of tap j.
+fn tap(n: usize, n2: usize, j: usize) -> u32
+    ensures { λ r. ⌜ r ≡ tap n n2 j ⌝ }
 {
-    (((a0 as u32) + 2 * (a1 as u32) + 2 * (a2 as u32) + 2 * (a3 as u32) + (a4 as u32) + 4)
-        >> 3) as u16
+    let d = if j <= n { n - j } else { j - n };
+    if d <= n2 { 2 } else { 1 }
 }
 
-pub fn wide6(l: LineSamples) -> LineSamples
-    ensures { λ r. ⌜ r ≡ make (wide 2 1 3 (of l)) ⌝ }
+// The place of the sample that tap j takes for the output at place k.
+fn position(n: usize, k: usize, j: usize) -> usize
+    requires { ⌜ (n ≤ 6) × (k < 64) × (j < 64) ⌝ }
+    ensures { λ r. ⌜ r ≡ clip (8 - (n + 1)) (8 + n) (k + j - n) ⌝ }
 {
-    let mut r = l;
-    r.p1 = tap5(l.p2, l.p2, l.p1, l.p0, l.q0);
-    r.p0 = tap5(l.p2, l.p1, l.p0, l.q0, l.q1);
-    r.q0 = tap5(l.p1, l.p0, l.q0, l.q1, l.q2);
-    r.q1 = tap5(l.p0, l.q0, l.q1, l.q2, l.q2);
-    r
+    let least = 8 - (n + 1);
+    let most = 8 + n;
+    if k + j < least + n {
+        return least;
+    }
+    if most < k + j - n { most } else { k + j - n }
 }
 
-fn tap7(a0: u16, a1: u16, a2: u16, a3: u16, a4: u16, a5: u16, a6: u16) -> u16
-    ensures { λ r. ⌜ r ≡ (sumTo (λ j. tap 3 0 j * getD (a0 ∷ a1 ∷ a2 ∷ a3 ∷ a4 ∷ a5 ∷ a6 ∷ []) j 0) 7 + 4) / 8 ⌝ }
+// No width has a sample at place 0.
+fn places(l: LineSamples) -> [u16; 15]
+    ensures { λ r. ⌜ Same 7 (λ k. getD r k 0) (of l) ⌝ }
 {
-    (((a0 as u32)
-        + (a1 as u32)
-        + (a2 as u32)
-        + 2 * (a3 as u32)
-        + (a4 as u32)
-        + (a5 as u32)
-        + (a6 as u32)
-        + 4)
-        >> 3) as u16
+    [
+        0,
+        l.p6,
+        l.p5,
+        l.p4,
+        l.p3,
+        l.p2,
+        l.p1,
+        l.p0,
+        l.q0,
+        l.q1,
+        l.q2,
+        l.q3,
+        l.q4,
+        l.q5,
+        l.q6,
+    ]
 }
 
-pub fn wide8(l: LineSamples) -> LineSamples
-    ensures { λ r. ⌜ r ≡ make (wide 3 0 3 (of l)) ⌝ }
+// Output i is at place 8 - n + i. Its tap j takes the sample at i + j here.
+fn clipped(n: usize, x: [u16; 15]) -> [u32; 24]
+    requires { ⌜ n ≤ 6 ⌝ }
+    ensures { λ r. ⌜ ((i : ℕ) → i < 4 * n → (getD r i 0 ≡ getD x (clip (8 - (n + 1)) (8 + n) (8 - n + i - n)) 0) × (getD r i 0 < 65536)) ⌝ }
 {
-    let mut r = l;
-    r.p2 = tap7(l.p3, l.p3, l.p3, l.p2, l.p1, l.p0, l.q0);
-    r.p1 = tap7(l.p3, l.p3, l.p2, l.p1, l.p0, l.q0, l.q1);
-    r.p0 = tap7(l.p3, l.p2, l.p1, l.p0, l.q0, l.q1, l.q2);
-    r.q0 = tap7(l.p2, l.p1, l.p0, l.q0, l.q1, l.q2, l.q3);
-    r.q1 = tap7(l.p1, l.p0, l.q0, l.q1, l.q2, l.q3, l.q3);
-    r.q2 = tap7(l.p0, l.q0, l.q1, l.q2, l.q3, l.q3, l.q3);
-    r
+    let mut y = [0u32; 24];
+    for i in 0..4 * n {
+        y[i] = x[position(n, 8 - n, i)] as u32;
+    }
+    y
 }
 
-fn sum13(
-    a0: u16,
-    a1: u16,
-    a2: u16,
-    a3: u16,
-    a4: u16,
-    a5: u16,
-    a6: u16,
-    a7: u16,
-    a8: u16,
-    a9: u16,
-    a10: u16,
-    a11: u16,
-    a12: u16,
-) -> u32
-    ensures { λ r. ⌜ (r ≡ sumTo (λ j. tap 6 1 j * getD (a0 ∷ a1 ∷ a2 ∷ a3 ∷ a4 ∷ a5 ∷ a6 ∷ a7 ∷ a8 ∷ a9 ∷ a10 ∷ a11 ∷ a12 ∷ []) j 0) 13 + 8) × (r ≤ 1048568) ⌝ }
+fn sum(n: usize, n2: usize, y: &[u32; 24], i: usize) -> u32
+    requires { ⌜ (i + 2 * n < 24) × ((j : ℕ) → j ≤ 2 * n → getD (now y) (i + j) 0 < 65536) ⌝ }
+    ensures { λ r. ⌜ r ≡ sumTo (λ j. tap n n2 j * getD (now (y .entry)) (i + j) 0) (2 * n + 1) ⌝ }
 {
-    (a0 as u32)
-        + (a1 as u32)
-        + (a2 as u32)
-        + (a3 as u32)
-        + (a4 as u32)
-        + 2 * (a5 as u32)
-        + 2 * (a6 as u32)
-        + 2 * (a7 as u32)
-        + (a8 as u32)
-        + (a9 as u32)
-        + (a10 as u32)
-        + (a11 as u32)
-        + (a12 as u32)
-        + 8
+    let mut t = 0u32;
+    for j in 0..2 * n + 1 {
+        t = t + tap(n, n2, j) * y[i + j];
+    }
+    t
 }
 
-// sum13 of a1 to a13, by s, that of a0 to a12.
-fn next13(
-    s: u32,
-    a0: u16,
-    a1: u16,
-    a2: u16,
-    a3: u16,
-    a4: u16,
-    a5: u16,
-    a6: u16,
-    a7: u16,
-    a8: u16,
-    a9: u16,
-    a10: u16,
-    a11: u16,
-    a12: u16,
-    a13: u16,
-) -> u32
-    requires { ⌜ (s ≡ sumTo (λ j. tap 6 1 j * getD (a0 ∷ a1 ∷ a2 ∷ a3 ∷ a4 ∷ a5 ∷ a6 ∷ a7 ∷ a8 ∷ a9 ∷ a10 ∷ a11 ∷ a12 ∷ []) j 0) 13 + 8) × (s ≤ 1048568) ⌝ }
-    ensures { λ r. ⌜ (r ≡ sumTo (λ j. tap 6 1 j * getD (a1 ∷ a2 ∷ a3 ∷ a4 ∷ a5 ∷ a6 ∷ a7 ∷ a8 ∷ a9 ∷ a10 ∷ a11 ∷ a12 ∷ a13 ∷ []) j 0) 13 + 8) × (r ≤ 1048568) ⌝ }
+fn round2(x: u32, n: u32) -> u32
+    requires { ⌜ (1 ≤ n) × (n ≤ 4) × (x ≤ 2 ^ n * 65535) ⌝ }
+    ensures { λ r. ⌜ (r ≡ natAbs (Round2 (pos x) n)) × (r < 65536) ⌝ }
 {
-    s + a8 as u32 + a13 as u32 - a0 as u32 - a5 as u32
+    (x + (1 << (n - 1))) >> n
 }
 
-fn sixteenth(s: u32) -> u16
-    requires { ⌜ s ≤ 1048568 ⌝ }
-    ensures { λ r. ⌜ r ≡ s / 16 ⌝ }
+// The outputs at the places 8 - n to 7 + n.
+pub fn wide(n: usize, n2: usize, log2: u32, l: LineSamples) -> [u16; 12]
+    requires { ⌜ (n ≤ 6) × (1 ≤ log2) × (log2 ≤ 4) × (sumTo (tap n n2) (2 * n + 1) ≡ 2 ^ log2) ⌝ }
+    ensures { λ r. ⌜ ((i : ℕ) → i < 2 * n → getD r i 0 ≡ wideAt n n2 log2 (of l) (8 - n + i)) ⌝ }
 {
-    (s / 16) as u16
-}
-
-// The sums of p5 to q5 divided.
-fn sixteenths(
-    l: LineSamples,
-    s1: u32,
-    s2: u32,
-    s3: u32,
-    s4: u32,
-    s5: u32,
-    s6: u32,
-    s7: u32,
-    s8: u32,
-    s9: u32,
-    s10: u32,
-    s11: u32,
-    s12: u32,
-) -> LineSamples
-    requires { ⌜ (s1 ≤ 1048568) × (s2 ≤ 1048568) × (s3 ≤ 1048568) × (s4 ≤ 1048568) × (s5 ≤ 1048568) × (s6 ≤ 1048568) × (s7 ≤ 1048568) × (s8 ≤ 1048568) × (s9 ≤ 1048568)
-        × (s10 ≤ 1048568) × (s11 ≤ 1048568) × (s12 ≤ 1048568) ⌝ }
-    ensures { λ r. ⌜ r ≡ make (λ k. getD (l .p6 ∷ s1 / 16 ∷ s2 / 16 ∷ s3 / 16 ∷ s4 / 16 ∷ s5 / 16 ∷ s6 / 16 ∷ s7 / 16 ∷ s8 / 16 ∷ s9 / 16 ∷ s10 / 16 ∷ s11 / 16 ∷ s12 / 16 ∷ l .q6 ∷ []) (k - 1) 0) ⌝ }
-{
-    let mut r = l;
-    r.p5 = sixteenth(s1);
-    r.p4 = sixteenth(s2);
-    r.p3 = sixteenth(s3);
-    r.p2 = sixteenth(s4);
-    r.p1 = sixteenth(s5);
-    r.p0 = sixteenth(s6);
-    r.q0 = sixteenth(s7);
-    r.q1 = sixteenth(s8);
-    r.q2 = sixteenth(s9);
-    r.q3 = sixteenth(s10);
-    r.q4 = sixteenth(s11);
-    r.q5 = sixteenth(s12);
-    r
-}
-
-pub fn wide16(l: LineSamples) -> LineSamples
-    ensures { λ r. ⌜ r ≡ make (wide 6 1 4 (of l)) ⌝ }
-{
-    let p6 = l.p6;
-    let p5 = l.p5;
-    let p4 = l.p4;
-    let p3 = l.p3;
-    let p2 = l.p2;
-    let p1 = l.p1;
-    let p0 = l.p0;
-    let q0 = l.q0;
-    let q1 = l.q1;
-    let q2 = l.q2;
-    let q3 = l.q3;
-    let q4 = l.q4;
-    let q5 = l.q5;
-    let q6 = l.q6;
-    let s1 = sum13(p6, p6, p6, p6, p6, p6, p5, p4, p3, p2, p1, p0, q0);
-    let s2 = next13(s1, p6, p6, p6, p6, p6, p6, p5, p4, p3, p2, p1, p0, q0, q1);
-    let s3 = next13(s2, p6, p6, p6, p6, p6, p5, p4, p3, p2, p1, p0, q0, q1, q2);
-    let s4 = next13(s3, p6, p6, p6, p6, p5, p4, p3, p2, p1, p0, q0, q1, q2, q3);
-    let s5 = next13(s4, p6, p6, p6, p5, p4, p3, p2, p1, p0, q0, q1, q2, q3, q4);
-    let s6 = next13(s5, p6, p6, p5, p4, p3, p2, p1, p0, q0, q1, q2, q3, q4, q5);
-    let s7 = next13(s6, p6, p5, p4, p3, p2, p1, p0, q0, q1, q2, q3, q4, q5, q6);
-    let s8 = next13(s7, p5, p4, p3, p2, p1, p0, q0, q1, q2, q3, q4, q5, q6, q6);
-    let s9 = next13(s8, p4, p3, p2, p1, p0, q0, q1, q2, q3, q4, q5, q6, q6, q6);
-    let s10 = next13(s9, p3, p2, p1, p0, q0, q1, q2, q3, q4, q5, q6, q6, q6, q6);
-    let s11 = next13(s10, p2, p1, p0, q0, q1, q2, q3, q4, q5, q6, q6, q6, q6, q6);
-    let s12 = next13(s11, p1, p0, q0, q1, q2, q3, q4, q5, q6, q6, q6, q6, q6, q6);
-    sixteenths(l, s1, s2, s3, s4, s5, s6, s7, s8, s9, s10, s11, s12)
+    let y = clipped(n, places(l));
+    let mut f = [0u16; 12];
+    for i in 0..2 * n {
+        f[i] = round2(sum(n, n2, &y, i), log2) as u16;
+    }
+    f
 }

@@ -1,0 +1,4 @@
+pub mod Clips
+pub mod Totals
+pub mod Rounds
+pub mod Outputs
