@@ -1,8 +1,8 @@
 -- What a legal block records is what the standard filters.
---   start plane          what a context holds at a tile's start: the highest class
---   Agrees               of one unit and pass: it has an edge exactly where apply_filter holds, and the edge's class is the standard's filter
+--   start plane           what a context holds at a tile's start: the highest class
+--   Agrees                of one unit and pass: it has an edge exactly where apply_filter holds, and the edge's class is the standard's filter
 --   bits_of, classes      the bits of a plane's edges, and how many classes it has
---   Marks                of one unit and pass: recording adds the bit of its edge exactly where apply_filter holds
+--   Marks                 of one unit and pass: recording adds the bit of its edge exactly where apply_filter holds
 --   Promises
 use Rattle.std.specs.Prelude.{◌≡◌, true, false, cond, not, ◌&&◌, ◌||◌, List, ℕ, ◌+◌, ◌-◌, ◌*◌, ◌≤◌, ◌<◌, min, eqb}
 use Rattle.bits.specs.Mark.{is_set}

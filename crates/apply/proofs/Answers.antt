@@ -2,9 +2,10 @@
 use mathlib.Core.Path.{◌≡◌, refl, sym, ◌∙◌}
 use mathlib.Core.Bool.{Bool, true, false, cond}
 use mathlib.Core.List.{List}
-use Prim.Native.Nat.{ℕ}
+use Prim.Native.Nat.{ℕ, ◌+◌, ◌*◌}
 use native.Mathlib.Omega.{arith}
 use borrow.Author.Tests.{ne_eqb}
+use Rattle.loops.specs.Run.{up_to}
 use Rattle.loops.proofs.Runs.{up_to-idle}
 use Rattle.plane.specs.Line.{Pass, columns, rows, Piece, pass_of}
 use Rattle.plane.specs.Plane.{Plane, act, cols_of, rows_of}
@@ -23,13 +24,28 @@ module _ (P : Plane) where
   none_done : (d : Pass) (p : Piece) (s : List ℕ) → act (shown false P) d p s ≡ s
   none_done d p s = idle (shown false P) d p (inner-none p.0) s
 
+  -- one unit of a record, in each pass
+  abbrev column-unit : ℕ → ℕ → ℕ → ℕ → List ℕ → List ℕ
+  column-unit k rec x y = act (shown false P) columns (rec * P.record_units + x, k * P.sb + y)
+
+  abbrev row-unit : ℕ → ℕ → ℕ → ℕ → List ℕ → List ℕ
+  row-unit k rec y x = act (shown false P) rows (k * P.sb + y, rec * P.record_units + x)
+
   cols-none : (k : ℕ) (s : List ℕ) → cols_of (shown false P) k s ≡ s
   unfolding cols_of
-  cols-none k = up_to-idle _ 0 P.records (λ rec _. up_to-idle _ 0 P.record_units (λ x _. up_to-idle _ 0 P.sb (λ y _. none_done columns _) (omega arith)) (omega arith)) (omega arith)
+  cols-none k =
+      up_to-idle (λ rec. up_to (λ x. up_to (column-unit k rec x) P.sb) P.record_units) 0 P.records
+      (λ rec _. up_to-idle (λ x. up_to (column-unit k rec x) P.sb) 0 P.record_units
+      (λ x _. up_to-idle (column-unit k rec x) 0 P.sb (λ y _. none_done columns (rec * P.record_units + x, k * P.sb + y)) (omega arith))
+      (omega arith)) (omega arith)
 
   rows_none : (k : ℕ) (s : List ℕ) → rows_of (shown false P) k s ≡ s
   unfolding rows_of
-  rows_none k = up_to-idle _ 0 P.records (λ rec _. up_to-idle _ 0 P.sb (λ y _. up_to-idle _ 0 P.record_units (λ x _. none_done rows _) (omega arith)) (omega arith)) (omega arith)
+  rows_none k =
+      up_to-idle (λ rec. up_to (λ y. up_to (row-unit k rec y) P.record_units) P.sb) 0 P.records
+      (λ rec _. up_to-idle (λ y. up_to (row-unit k rec y) P.record_units) 0 P.sb
+      (λ y _. up_to-idle (row-unit k rec y) 0 P.record_units (λ x _. none_done rows (k * P.sb + y, rec * P.record_units + x)) (omega arith))
+      (omega arith)) (omega arith)
 
   pub shown-cols : (on : Bool) (k : ℕ) (s : List ℕ) → cols_of (shown on P) k s ≡ cond on (cols_of P k s) s
   shown-cols true k s = refl

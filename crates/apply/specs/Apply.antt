@@ -1,17 +1,17 @@
 -- The calls that filter one pass of a superblock row: the planes that they define, and their contract.
 --   component_of c plane       a plane of the frame of a call
---   shown on P                the plane, with no edges unless it is on
---   Limits, limits            the limit table's e and i
+--   shown on P                 the plane, with no edges unless it is on
+--   Limits, limits             the limit table's e and i
 --   tables_of c l m            what a plane is filtered by
 --   plane_at c l m plane       a plane, from what is lent
 --   planes_of c l m            the three planes, chroma without edges where it is not filtered
 --   three_of m, three          their samples
 --   pass_call c                the pass of the call, over the three planes
---   FilterAnswer              number and samples after a call
+--   FilterAnswer               number and samples after a call
 --   call_of                    the call of these arguments
---   FilterLent                FilterAnswer of the lists that a call is lent, its number, and its samples after it
+--   FilterLent                 FilterAnswer of the lists that a call is lent, its number, and its samples after it
 --   swept, swept_if            what is done to a plane, and to one of chroma
---   Ready, Ready16            what that asks, and of samples of 16 bits
+--   Ready, Ready16             what that asks, and of samples of 16 bits
 use Rattle.std.specs.Prelude.{Bool, cond, List, ◌≡◌, ℕ, ◌^◌, ◌≤◌, eqb, length}
 use Rattle.std.proofs.Math.Option.{none}
 use Rattle.plane.specs.Line.{pass_of}

@@ -1,5 +1,7 @@
 // Public: columns and rows of one superblock row, luma and chroma, at 8 and 16 bits. They are `rav1d_loopfilter_sbrow_cols`, but for the
 // tile correction, and `rav1d_loopfilter_sbrow_rows`.
+#![tactic(auto)]
+
 ghost use Rattle.std.specs.Prelude.{◌≡◌, true, false};
 ghost use Rattle.filter.specs.Filter.{tables};
 ghost use Rattle.checks.specs.Call.{chroma_on, Shaped};

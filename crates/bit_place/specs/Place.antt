@@ -1,12 +1,12 @@
 -- Bits of a list of bytes by place: place p is bit 7 - p % 8 of byte p / 8.
 --   bit_at l p         the bit at a place; past the end it is 0
---   places s p n      n bits of a stream from place p on
+--   places s p n       n bits of a stream from place p on
 --   bits_from l p      the bits of the bytes from a place to the end
 --   number_at s p n    n bits from place p on as a number, the first the highest
 --   with_bit m k b     a byte with its bit k put, the lowest being bit 0
 --   put_bit l p b      the bytes with the bit at a place put
---   digits n v        the n lowest bits of a number, the highest first
---   laid bs p l       the bytes with bits put from a place on
+--   digits n v         the n lowest bits of a number, the highest first
+--   laid bs p l        the bytes with bits put from a place on
 use Rattle.std.specs.Prelude.{cond, List, [], ◌∷◌, ℕ, zero, suc, ◌+◌, ◌-◌, ◌*◌, ◌/◌, ◌%◌, ◌^◌, length, get_or, set}
 use Rattle.std.specs.Int.Bits.{bit_and, bit_or}
 use Rattle.bits.specs.Bit.{has_bit}

@@ -1,4 +1,6 @@
 // Bits of bytes at a place, the highest bit of a byte first: read, put, and seven of them as a signed number.
+#![tactic(auto)]
+
 ghost use Rattle.std.specs.Prelude.{◌≡◌, ◌+◌, ◌-◌, ◌*◌, ◌^◌, ◌<◌, ◌≤◌, leb, length};
 ghost use Rattle.bits.specs.Bit.{has_bit};
 ghost use Rattle.standard.specs.Header.{worth, su_of};

@@ -1,7 +1,7 @@
 -- The loop `while vm & !wrapping_sub_u32(xy, 1) != 0 { if vm & xy != 0 { f } xy <<= 1; }` visits each set place below 32 once:
 -- at place k the bit is 2 ^ k % 2 ^ 32, so 0 past place 31, and the loop's test is what vm has from place k on.
 use mathlib.Core.Path.{◌≡◌, refl, ap, ◌∙◌, sym}
-use mathlib.Core.Bool.{true, false}
+use mathlib.Core.Bool.{true, false, cond}
 use mathlib.Core.Logic.{by_cases}
 use Prim.Native.Nat.{ℕ, suc, ◌+◌, ◌-◌, ◌*◌, ◌/◌, ◌%◌, ◌^◌, ◌≤◌, ◌<◌}
 use native.Mathlib.Omega.{arith}
@@ -34,7 +34,8 @@ module _ {S : Type 0} (f : ℕ → S → S) (vm : ℕ) (s : S) where
   -- past the highest set bit nothing more is visited
   pub visits-stop : (n k : ℕ) → k ≤ n → vm < 2 ^ k → visits n vm f s ≡ visits k vm f s
   unfolding visits
-  visits-stop n k h l = up_to-idle _ k n (λ i g t. rw (has_bit-0 vm i (bit-small vm i (omega (arith, pow_mono g))))) h s
+  visits-stop n k h l =
+      up_to-idle (λ i t. cond (has_bit vm i) (f i t) t) k n (λ i g t. rw (has_bit-0 vm i (bit-small vm i (omega (arith, pow_mono g))))) h s
 
 -- ---- the loop's test, xy the bit at place k and r = xy - 1
 

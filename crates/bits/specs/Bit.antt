@@ -1,5 +1,5 @@
 -- The bits of a number.
---     bit        bit k of m, as a number
+--     bit         bit k of m, as a number
 --     has_bit     as a test
 use Rattle.std.specs.Prelude.{Bool, ℕ, ◌/◌, ◌%◌, ◌^◌, eqb}
 

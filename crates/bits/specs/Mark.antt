@@ -1,5 +1,5 @@
 -- A list of 16-bit words as a set of bits: bit e is bit e % 16 of word e / 16.
---     is_set            the set has the bit
+--     is_set           the set has the bit
 --     mark, unmark     the set with the bit, and without it
 --     marks            with the bits f 0, f 1, .. f (n - 1)
 --     Words            every word fits 16 bits

@@ -1,15 +1,15 @@
 -- A block to record, document 01, "Recording": its sizes, what of it is seen, and the memory that is lent for it.
---   w4, h4                    the frame, in luma units
+--   w4, h4                      the frame, in luma units
 --   block_width, block_height   the block, in luma units
---   ss-hor, ss-ver            ss_hor and ss_ver of the frame's layout
---   bw4, bh4                  the visible size, in luma units: the block cut at w4 and h4
---   chroma_side                in chroma units: of all units from u on, what n of them come to, both rounded up
---   cbw4, cbh4                the visible size, in chroma units
+--   ss-hor, ss-ver              ss_hor and ss_ver of the frame's layout
+--   bw4, bh4                    the visible size, in luma units: the block cut at w4 and h4
+--   chroma_side                 in chroma units: of all units from u on, what n of them come to, both rounded up
+--   cbw4, cbh4                  the visible size, in chroma units
 --   sees_luma, sees_chroma      units are recorded in the plane
---   Lent, lent                the lent memory
---   cx, cy                    the place, in chroma units
---   at_block b m               what is lent of the frame's memory m: contexts that begin at the block
---   Sides                     what the sizes ask: a frame's sides, a block's code
+--   Lent, lent                  the lent memory
+--   cx, cy                      the place, in chroma units
+--   at_block b m                what is lent of the frame's memory m: contexts that begin at the block
+--   Sides                       what the sizes ask: a frame's sides, a block's code
 use Rattle.std.specs.Prelude.{Bool, ◌&&◌, List, ℕ, ◌-◌, ◌<◌, ◌≤◌, min, ltb, drop}
 use Rattle.standard.specs.Sizes.{Num_4x4_Blocks_Wide, Num_4x4_Blocks_High}
 use Rattle.units.specs.Units.{units_of, chroma_unit, chroma_units}

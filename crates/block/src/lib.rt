@@ -1,4 +1,6 @@
 // A block to record: its visible size in luma and chroma units, and the number that refuses it.
+#![tactic(auto)]
+
 pub mod faults;
 pub mod number;
 
@@ -10,7 +12,7 @@ use units::sizes::{block_high, block_wide};
 use units::{ChromaUnit, LumaUnit, Sample, chroma_unit, chroma_units, least, luma_units};
 
 // The frame, the block's place, codes and chroma pair; of an intra block skip, reference and mode are 0.
-#[derive(Drop)]
+#[derive(Clone, Copy)]
 pub struct Block {
     pub width: Sample,
     pub height: Sample,

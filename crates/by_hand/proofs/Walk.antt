@@ -12,48 +12,12 @@ pub use base.Fml.{Lft, Share, Fml, ftrue, flft, fat, GName, fsep, flent, fres, f
 pub use prog.Memory.{Memory}
 pub use prog.Routine.{Routine}
 pub use prog.Wp.{Heap, Calls, Loops, WpFn, Tables}
-pub use ghost.Atoms.{Atoms, sem}
+pub use ghost.Atoms.{Atoms}
+pub use Rattle.std.specs.Borrow.{sem}
 pub use contract.Lifetimes.{Lfts}
 pub use contract.Monad.{Fun, fact}
-unfoldable pub use contract.Running.{given_of, tables, tables_of}
-pub use types.Kit.{
-  Given,
-  ‵,
-  raw,
-  ◌⊛◌,
-  given,
-  ⋆,
-  some,
-  later,
-  ◌$◌,
-  ◌∵◌,
-  !,
-  qed,
-  by,
-  move,
-  drop,
-  use1,
-  use2,
-  split,
-  learn,
-  pick,
-  fsplit,
-  fjoin,
-  suffices,
-  frame,
-  await,
-  done,
-  join,
-  rewrite,
-  keep,
-  use3,
-  show,
-  fpick,
-  fpack,
-  fsplit3,
-  fjoin3,
-  feq_i,
-}
+unfoldable pub use contract.Running.{tables, tables_of}
+pub use types.Kit.{‵, raw, ◌⊛◌, given, ⋆, some, later, ◌$◌, ◌∵◌, !, qed, by, move, drop, use1, use2, split, learn, pick, fsplit, fjoin, suffices, frame, await, done, join, rewrite, keep, use3, show, fpick, fpack, fsplit3, fjoin3, feq_i}
 pub use types.Part.{whole, sub, look_in, agg, store_in}
 pub use types.Run.{
   look,

@@ -2,13 +2,13 @@
 --   Lent                        the lent memory
 --   lent                        of these
 --   samples m plane             the samples of a plane
---   call_pass c                  columns or rows
+--   call_pass c                 columns or rows
 --   w4, h4, sb4                 the frame and its superblocks, in luma units
 --   ss-hor, ss-ver c plane      the subsampling of a plane
---   grid_of c plane              its units
---   stride_of c plane            its stride
---   area_of c plane              its level byte in this pass
---   chroma_on c                  chroma is filtered: there is chroma, and not both of its base levels are 0
+--   grid_of c plane             its units
+--   stride_of c plane           its stride
+--   area_of c plane             its level byte in this pass
+--   chroma_on c                 chroma is filtered: there is chroma, and not both of its base levels are 0
 --   Filtered c plane            a plane is filtered
 --   Shaped c                    what number 4 leaves
 --   Roomy c levels masks        what number 7 leaves, of these lengths

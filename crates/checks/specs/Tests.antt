@@ -1,16 +1,16 @@
 -- The tests of the numbers of a call that filters, in the order in which they are asked. Those of 8, 9, 11 and 12 look at the planes it filters.
---   any_plane c test       some filtered plane passes a test
---   level_bad              2: a chroma base level above 63, or other than 0 at 4:0:0
---   depth_bad              3
---   shape_bad              4: layout, frame size, superblock size
---   length_bad             7: levels, their stride, masks
---   inside                the superblock row lies in the frame; one that does not has no units and no lines
---   levels_bad             8: a level byte above 63 of this pass, at a unit of the row or, for rows, of the unit line above it
+--   any_plane c test        some filtered plane passes a test
+--   level_bad               2: a chroma base level above 63, or other than 0 at 4:0:0
+--   depth_bad               3
+--   shape_bad               4: layout, frame size, superblock size
+--   length_bad              7: levels, their stride, masks
+--   inside                  the superblock row lies in the frame; one that does not has no units and no lines
+--   levels_bad              8: a level byte above 63 of this pass, at a unit of the row or, for rows, of the unit line above it
 --   plane_bad, planes_bad   9: stride, length, or a sample above the depth's maximum among the row's stored lines and, for rows, the 8 above
---   gap_bad                11
---   mask_bad               12
---   given, marked         the number of the first of 2 to 8, and of 10 to 12
---   number                of all
+--   gap_bad                 11
+--   mask_bad                12
+--   given, marked           the number of the first of 2 to 8, and of 10 to 12
+--   number                  of all
 use Rattle.std.specs.Prelude.{Bool, cond, not, ◌&&◌, ◌||◌, List, ℕ, ◌-◌, ◌*◌, ◌^◌, eqb, ltb, length}
 use Rattle.units.specs.Units.{chroma_unit}
 use Rattle.units.specs.Layout.{layout_ok, has_chroma}

@@ -1,4 +1,6 @@
 // The numbers of the calls that filter.
+#![tactic(auto)]
+
 pub mod faults;
 
 ghost use Rattle.std.specs.Prelude.{◌≡◌, ℕ, length};
@@ -17,7 +19,7 @@ use units::numbers::{
 
 // One pass of superblock row `row`: by rows or by columns. level_u and level_v are chroma's base levels; luma_stride and chroma_stride are in samples,
 // level_stride is that of the level bytes, in units.
-#[derive(Drop)]
+#[derive(Clone, Copy)]
 pub struct Call {
     pub width: Sample,
     pub height: Sample,

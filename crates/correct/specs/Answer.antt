@@ -1,8 +1,8 @@
 -- The contract of `correct_column` and `correct_row`.
---   start_of             the start of these arguments
+--   start_of              the start of these arguments
 --   column_of, row_of     that of a call
---   CorrectAnswer       number and masks after a call
---   Ready               what the work behind the number asks in a plane
+--   CorrectAnswer         number and masks after a call
+--   Ready                 what the work behind the number asks in a plane
 use Rattle.std.specs.Prelude.{Bool, true, false, cond, List, ◌≡◌, ℕ, ◌*◌, ◌≤◌, eqb, length}
 use Rattle.units.specs.Frame.{frame_records}
 use Rattle.correct.specs.declared.Start.{Start}

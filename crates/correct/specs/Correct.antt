@@ -1,11 +1,11 @@
 -- What a tile correction stores, document 01, "Tile correction".
---   old_class          the old class, from the bits that are set: in luma 2 * bit 2 + bit 1, in chroma bit 1
---   cleared           all bits of an edge cleared; its bit of class c is `bit c`
---   corrected         and that of min (old, context) set
---   correct_line       n units from `first` on, at `across`
+--   old_class           the old class, from the bits that are set: in luma 2 * bit 2 + bit 1, in chroma bit 1
+--   cleared             all bits of an edge cleared; its bit of class c is `bit c`
+--   corrected           and that of min (old, context) set
+--   correct_line        n units from `first` on, at `across`
 --   grid_in, line_done  the plane of a `TileEdge`, and its units corrected
---   plane_done         of one plane at a tile's start
---   done              of all planes
+--   plane_done          of one plane at a tile's start
+--   done                of all planes
 -- and what the code asks
 --   Room              of an edge's first bit: up to the highest old class its bits lie in the masks
 --   Fits              of a line: its units lie in the frame, and masks and context are long enough

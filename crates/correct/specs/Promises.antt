@@ -1,8 +1,8 @@
 -- What document 01 promises of `correct_column` and `correct_row`, as theorems on their contract alone.
 --   HasPlane          luma, and chroma unless the layout is 4:0:0
 --   CorrectedUnit     a unit that is corrected
---   bit_at             the bit of class c at a unit
---   new_class          the lesser of its old class and its context's
+--   bit_at            the bit of class c at a unit
+--   new_class         the lesser of its old class and its context's
 --   Promised          of one answer
 --   Promises          of all
 use Rattle.std.specs.Prelude.{Bool, true, cond, List, ◌⊎◌, ◌≡◌, ℕ, ◌-◌, ◌<◌, ◌≤◌, min, eqb, length, get_or}

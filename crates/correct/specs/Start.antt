@@ -1,11 +1,11 @@
 -- The start of a tile in a frame, document 01, "Tile correction". The code's `Start` holds the frame, the pass (rows or not), the
 -- superblock row, and the superblock at which the tile's first column lies, 0 in the row pass.
 --   w4, h4, sb4               the frame and a superblock's side, in luma units
---   grid_at                    the luma or the chroma plane's units
+--   grid_at                   the luma or the chroma plane's units
 --   begin                     the superblock whose first line of units across the pass is the tile's first
 --   across                    that line, in units of a plane
 --   first, end                along it the units from `first` on, below `end`: those of the superblock row, or in the row pass all of the frame
---   line_of                    all of these as the code's `TileEdge`
+--   line_of                   all of these as the code's `TileEdge`
 --   inside                    superblock row and tile start lie in the frame
 --   corrects                  something is corrected in a plane: inside the frame, not at its unit 0, and no chroma at 4:0:0
 -- and what the code asks

@@ -1,10 +1,10 @@
 -- The tests of the numbers 4, 6, 7 and 10, in the order in which they are asked.
 --   shape_bad            4: layout, frame size, superblock size
 --   units_along          the units of a plane that are corrected
---   most                the range of a plane's context
+--   most                 the range of a plane's context
 --   context_refused      6, in a plane in which units are corrected
 --   length_bad           7: masks
---   number              the number of the first of them; 10 is a start outside the frame
+--   number               the number of the first of them; 10 is a start outside the frame
 use Rattle.std.specs.Prelude.{Bool, true, false, cond, not, ◌&&◌, ◌||◌, List, ℕ, ◌-◌}
 use Rattle.units.specs.Layout.{layout_ok}
 use Rattle.units.specs.Frame.{frame_ok, superblock_ok}

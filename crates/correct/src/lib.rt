@@ -1,4 +1,6 @@
 // Public: the correction of masks at a tile's first column and top row, where no edge has a class above its context's.
+#![tactic(auto)]
+
 mod edge;
 mod number;
 mod place;
@@ -14,7 +16,7 @@ use place::{corrects, line};
 use units::{LumaUnit, Sample};
 
 // The start of a tile: frame, pass, superblock row, and the superblock of the tile's first column, 0 in the row pass.
-#[derive(Drop)]
+#[derive(Clone, Copy)]
 pub struct Start {
     pub width: Sample,
     pub height: Sample,
@@ -26,7 +28,7 @@ pub struct Start {
 }
 
 // n units along a pass, from `first` on, at `across`, in units of their own plane.
-#[derive(Drop)]
+#[derive(Clone, Copy)]
 pub struct TileEdge {
     pub luma: bool,
     pub rowwise: bool,

@@ -1,18 +1,18 @@
 -- How `decomp_tx` fills the tables, in the order of the code.
---   value p w h               what a transform of w by h units has in table p
+--   value p w h                 what a transform of w by h units has in table p
 --   wide_in p w, high_in p h    how much of it is written there: of a step across the first column, of a step down the first row
---   run at n v                n cells from `at` on are v
---   fill at w h v             h rows of w cells
---   put y0 x0 w h             a transform of w by h units at row y0 and column x0
---   whole t y x               one of size t, at row y and column x of those of its size
---   grid n k g                g y x for n columns and k rows
---   splits m t y x            the mask m of its depth splits it: a square goes to four, an oblong to two halves of its long side
---   splits_by ms t y x         so does the first of the masks of its depth and below
---   decomp ms t y x           the transform with all its splits
---   masks_from d ms            the masks of depth d and below
---   counted n side            how many transforms of a side n units have
---   block ms t w4 h4          the transforms of a block, t the maximal one
---   Place t d y x             where a transform at depth d may stand: an oblong is the first across its short side
+--   run at n v                  n cells from `at` on are v
+--   fill at w h v               h rows of w cells
+--   put y0 x0 w h               a transform of w by h units at row y0 and column x0
+--   whole t y x                 one of size t, at row y and column x of those of its size
+--   grid n k g                  g y x for n columns and k rows
+--   splits m t y x              the mask m of its depth splits it: a square goes to four, an oblong to two halves of its long side
+--   splits_by ms t y x          so does the first of the masks of its depth and below
+--   decomp ms t y x             the transform with all its splits
+--   masks_from d ms             the masks of depth d and below
+--   counted n side              how many transforms of a side n units have
+--   block ms t w4 h4            the transforms of a block, t the maximal one
+--   Place t d y x               where a transform at depth d may stand: an oblong is the first across its short side
 use Rattle.std.specs.Prelude.{Bool, false, cond, not, ◌&&◌, ◌≡◌, List, [], ◌∷◌, ℕ, zero, suc, ◌+◌, ◌-◌, ◌*◌, ◌/◌, ◌≤◌, ◌<◌, eqb, ltb, get_or, set}
 use Rattle.loops.specs.Run.{up_to}
 use Rattle.bits.specs.Bit.{has_bit}

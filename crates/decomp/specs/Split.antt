@@ -1,7 +1,7 @@
 -- The transform that a unit of an inter block lies in, 5.11.17, as tx_masks tell it (01, "Recording").
 --   is_split m t x y     a transform of size t at the unit (x, y) is split: it is not 4x4, and m, the mask of its depth, has its bit.
 --                       The bit counts the block's transforms of that size, 4 to a row
---   leaf ms t x y       what a transform of size t comes to at (x, y); ms are the masks of its depth and of those below
+--   leaf ms t x y        what a transform of size t comes to at (x, y); ms are the masks of its depth and of those below
 --   tx_at ms t x y       t is the block's maximal transform, ms are its two masks: nothing is split at depth 2
 -- Places are in units from the block's corner.
 use Rattle.std.specs.Prelude.{Bool, cond, not, ◌&&◌, List, [], ◌∷◌, ℕ, ◌+◌, ◌*◌, ◌/◌, eqb, get_or}

@@ -1,5 +1,7 @@
 // The transforms of an inter block, split by recursion. Four tables of 32 by 32 cells tell them: class across, step across, class down,
 // step down (the Rust's txa[edge][txsz|step][y][x]).
+#![tactic(auto)]
+
 ghost use Rattle.std.specs.Prelude.{◌≡◌, ℕ, ◌+◌, ◌*◌, ◌<◌, ◌≤◌, length};
 ghost use Rattle.loops.specs.Run.{up_to};
 ghost use Rattle.standard.specs.Sizes.{Tx_Wide, Tx_High};

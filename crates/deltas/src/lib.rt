@@ -1,5 +1,7 @@
 // The steps of a level on signed deltas: range tests, and 7.14.5 of the standard.
 // A delta is carried as an unsigned number 128 above it, and a sum of deltas beside its offset.
+#![tactic(auto)]
+
 ghost use Rattle.std.specs.Prelude.{◌≡◌, true, cond, ◌<◌, ◌≤◌, pos, ◌+ℤ◌, length};
 ghost use Rattle.std.proofs.Math.IntN.{sub_ℕ};
 ghost use Rattle.loops.specs.Any.{any_below};

@@ -1,18 +1,18 @@
 -- The edges of one plane of units, as the masks of a frame hold them.
---   Grid                     a plane of units: luma or chroma, its subsampling, and the frame in luma units
---   grid_of                   of these numbers
+--   Grid                       a plane of units: luma or chroma, its subsampling, and the frame in luma units
+--   grid_of                    of these numbers
 --   luma_grid, chroma_grid     luma, and chroma: U and V share their masks
---   Proper                   a subsampling is 0 or 1, and 0 in luma
---   ss_of                     the subsampling of the direction across a pass: to the right in columns, down in rows
---   units_of, side            the units of the frame in that direction, and those of a 128x128 record
---   half                     the units along the pass that a half of a mask's bits holds
---   record_at                 a record of the frame, by its numbers across the pass and along it
---   classes                  how many classes there are
+--   Proper                     a subsampling is 0 or 1, and 0 in luma
+--   ss_of                      the subsampling of the direction across a pass: to the right in columns, down in rows
+--   units_of, side             the units of the frame in that direction, and those of a 128x128 record
+--   half                       the units along the pass that a half of a mask's bits holds
+--   record_at                  a record of the frame, by its numbers across the pass and along it
+--   classes                    how many classes there are
 --   word_in, bit_in            the word of a half, and the bit of an edge, in its record
---   edge_bit                  the bit of an edge in the masks
---   in_frame                  a unit of the frame
---   highest                  the highest class below n that is set
---   edge                     the edge at a unit: the highest class whose bit is set; none outside the frame
+--   edge_bit                   the bit of an edge in the masks
+--   in_frame                   a unit of the frame
+--   highest                    the highest class below n that is set
+--   edge                       the edge at a unit: the highest class whose bit is set; none outside the frame
 -- A unit is (across, along), as a `Piece` is.
 use Rattle.std.specs.Prelude.{◌≡◌, Bool, true, false, ◌&&◌, cond, List, ℕ, zero, suc, ◌+◌, ◌*◌, ◌/◌, ◌%◌, ◌^◌, ◌≤◌, ltb}
 use Rattle.std.proofs.Math.Option.{Option, some, none}

@@ -1,4 +1,6 @@
 // The edges that the masks of a frame hold: the bit of an edge, and its class.
+#![tactic(auto)]
+
 pub mod bit;
 
 ghost use Rattle.std.specs.Prelude.{◌≡◌, ◌+◌, ◌/◌, ◌<◌, length};

@@ -1,11 +1,11 @@
 -- A small frame: 16 by 72 samples of 4:2:0 in superblocks of 64, so two superblock rows, and units 16 of luma and 8 of chroma on their boundary.
 --   call, head               its calls, and one of them
---   edges_of n d k            the edges of plane n in superblock row k, with their classes
+--   edges_of n d k           the edges of plane n in superblock row k, with their classes
 --   bits, masks, levels      the bits of those edges, and the masks that have them; level 32 everywhere
 --   limits                   the limit table of sharpness 3
 --   quarters                 samples of four quarters, which meet 4 samples from the left on the boundary; w samples a line, h lines above it
---   samples_of n, lent        those of plane n; and all that the calls are lent
---   plane_of n                plane n
+--   samples_of n, lent       those of plane n; and all that the calls are lent
+--   plane_of n               plane n
 use Rattle.std.specs.Prelude.{Bool, false, cond, List, [], ◌∷◌, ◌++◌, map, ℕ, zero, suc, ◌*◌, ◌%◌, ltb, length, get_or, replicate}
 use Rattle.loops.specs.Table.{tabulate}
 use Rattle.bits.specs.Mark.{marks}

@@ -1,19 +1,19 @@
 -- One line of units of superblock row k and record rec as it is walked, the a-th across the pass.
 --   left_of, top_of           its first unit, to the right and down
---   unit_at                  its place across the pass
+--   unit_at                   its place across the pass
 --   across_of, units_across   how many such lines there are, and how many of them lie in the frame
---   first_unit               the first of them that is walked: none is at the frame's start
---   unit_in                  its unit across the pass in the masks of the record
---   mask_at                  where its masks start
+--   first_unit                the first of them that is walked: none is at the frame's start
+--   unit_in                   its unit across the pass in the masks of the record
+--   mask_at                   where its masks start
 --   start_half, halves_of     the halves of the row in the record: the first of them, and how many
---   halves_at                the word of n halves, h units each, from the first one on; the masks of a class start at `at`
---   class_at                 that of a class; there is no class 2 in chroma
---   line_mask                the mask of a class of the line
+--   halves_at                 the word of n halves, h units each, from the first one on; the masks of a class start at `at`
+--   class_at                  that of a class; there is no class 2 in chroma
+--   line_mask                 the mask of a class of the line
 --   along_step, back_step     from a level byte to the next, and back to the unit before the edge
---   line_in                  the line, as `walk` takes it
---   record_sweep             what is done along the lines of a record
---   Counted                 what the numbers of a line ask: no sum wraps, and the masks hold the record
---   Inner                   the line lies in the frame, and not at its start
+--   line_in                   the line, as `walk` takes it
+--   record_sweep              what is done along the lines of a record
+--   Counted                   what the numbers of a line ask: no sum wraps, and the masks hold the record
+--   Inner                     the line lies in the frame, and not at its start
 use Rattle.std.specs.Prelude.{◌≡◌, Bool, cond, List, ◌⊎◌, ℕ, ◌+◌, ◌*◌, ◌/◌, ◌^◌, ◌≤◌, ◌<◌, eqb, ltb, get_or}
 use Rattle.loops.specs.Run.{up_to}
 use Rattle.plane.specs.Line.{Pass, columns, rows, line_step, sample_step}

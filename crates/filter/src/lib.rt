@@ -1,5 +1,7 @@
 // One pass over a superblock row of one plane: `filter_plane_cols_y/uv` and `filter_plane_rows_y/uv` of the Rust, which are one code with
 // other steps.
+#![tactic(auto)]
+
 pub mod lines;
 
 ghost use Rattle.std.specs.Prelude.{◌≡◌, ◌^◌, ◌≤◌, ◌<◌, length};
@@ -13,7 +15,7 @@ ghost use Rattle.filter.specs.Promises.{Promises};
 use units::LumaUnit;
 
 // One plane of a frame: 0 luma, 1 U, 2 V, with its own subsampling, 0 for luma; its stride in samples, and level_stride, that of the level bytes, in units.
-#[derive(Drop)]
+#[derive(Clone, Copy)]
 pub struct Component {
     pub plane: usize,
     pub ss_hor: usize,

@@ -15,7 +15,7 @@ use Rattle.plane.specs.Line.{Pass, columns, rows, Piece, Change, Gives}
 use Rattle.plane.specs.Plane.{Plane, luma, chroma, Kept, Boundary, end, right, down}
 use Rattle.units.specs.Frame.{records, superblocks}
 use Rattle.units.specs.Units.{chroma_unit, chroma_units}
-use Rattle.edges.specs.Edges.{Proper, units_of, side, edge}
+use Rattle.edges.specs.Edges.{Proper, units_of}
 use Rattle.line.specs.Width.{four, six, eight, sixteen}
 use Rattle.line.proofs.Rules.{gives}
 use Rattle.walk.specs.Walk.{len_of}

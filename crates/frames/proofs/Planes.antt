@@ -4,7 +4,7 @@ use mathlib.Core.Path.{◌≡◌, refl, sym, ap, ◌∙◌, subst}
 use mathlib.Core.Bool.{Bool, true, false}
 use mathlib.Core.List.{List, [], ◌∷◌}
 use mathlib.Core.Logic.{◌≢◌, ⊎_elim}
-use mathlib.Core.Option.{some, none}
+use mathlib.Core.Option.{none}
 use Prim.Native.Nat.{ℕ, suc, ◌*◌, ◌/◌, ◌<◌}
 use native.Mathlib.Nat.{div-lt_iff_lt-mul, mul-le-mul_right}
 use native.Mathlib.Omega.{arith}
@@ -13,7 +13,7 @@ use Rattle.loops.specs.Run.{run, up_to}
 use Rattle.loops.proofs.Runs.{up_to-idle}
 use Rattle.loops.proofs.Locals.{commute}
 use Rattle.plane.specs.Line.{Pass, columns, rows, Piece}
-use Rattle.plane.specs.Plane.{Plane, class, IsPiece, act, cols_of, rows_of, raster_of, down, Kept, InRow}
+use Rattle.plane.specs.Plane.{Plane, class, IsPiece, act, cols_of, rows_of, unit, raster_of, down, Kept, InRow}
 use Rattle.plane.specs.Three.{Three}
 use Rattle.plane.proofs.Pieces.{Fair, inner-some, idle, local-of, reads-piece, local, apart, past, ahead, not-both}
 use Rattle.units.specs.Frame.{superblocks}
@@ -81,7 +81,9 @@ module _ (P : Plane) (no_edge : (d : Pass) (p : Piece) → class P d p ≡ none)
 
   raster-stays : (d : Pass) (s : List ℕ) → raster_of P d s ≡ s
   unfolding raster_of
-  raster-stays d = up_to-idle _ 0 (P.sbs * P.sb) (λ y _. up_to-idle _ 0 (P.records * P.record_units) (λ x _. stays d _) (omega arith)) (omega arith)
+  raster-stays d =
+      up_to-idle (λ y. up_to (λ x. act P d (unit d x y)) (P.records * P.record_units)) 0 (P.sbs * P.sb)
+      (λ y _. up_to-idle (λ x. act P d (unit d x y)) 0 (P.records * P.record_units) (λ x _. stays d (unit d x y)) (omega arith)) (omega arith)
 
   cols-stay : (k : ℕ) (s : List ℕ) → cols_of P k s ≡ s
   cols-stay k s = sym ((filter.promises).columns-are P k s) ∙ sweep-stays P no_edge columns k s
@@ -90,7 +92,7 @@ module _ (P : Plane) (no_edge : (d : Pass) (p : Piece) → class P d p ≡ none)
   rows_stay k s = sym ((filter.promises).rows_are P k s) ∙ sweep-stays P no_edge rows k s
 
   turns-stay : (s : List ℕ) → up_to (λ k t. rows_of P k (cols_of P k t)) P.sbs s ≡ s
-  turns-stay = up_to-idle _ 0 P.sbs (λ k _ t. rows_stay k (cols_of P k t) ∙ cols-stay k t) (omega arith)
+  turns-stay = up_to-idle (λ k t. rows_of P k (cols_of P k t)) 0 P.sbs (λ k _ t. rows_stay k (cols_of P k t) ∙ cols-stay k t) (omega arith)
 
   no-piece : (d : Pass) (p : Piece) → IsPiece P d p → ⊥
   no-piece d p e = not-both (sym (no_edge d p) ∙ e.is)

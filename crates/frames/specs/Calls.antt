@@ -1,12 +1,12 @@
 -- The calls that filter a frame: one pass of one superblock row each, with one set of levels, masks and limits.
 --   Frame               what all of them are given; the row and the pass of `head` do not count
---   is_rows d            the flag of a pass
---   call_at f d k        the call for superblock row k in pass d: columns_8, columns_16, rows_8 or rows_16
---   lent_of f s          the memory it is lent where the planes hold s
+--   is_rows d           the flag of a pass
+--   call_at f d k       the call for superblock row k in pass d: columns_8, columns_16, rows_8 or rows_16
+--   lent_of f s         the memory it is lent where the planes hold s
 --   answer f d k s      its number
 --   after f d k s       what it leaves in the planes
 --   planes f            the planes that the frame defines
---   sb_rows f            how many superblock rows there are
+--   sb_rows f           how many superblock rows there are
 --   Accepted f s        there is a call, and every one of the frame answers 0
 --   BoundariesKept f    the one hypothesis that no call checks, of each plane
 use Rattle.std.specs.Prelude.{Bool, true, false, cond, List, [], ◌≡◌, ℕ, ◌<◌, eqb}

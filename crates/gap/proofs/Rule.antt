@@ -10,7 +10,7 @@ use lib.Dec.{eqb}
 use borrow.Author.Tests.{eq-eqb, eqb-true, le-leb, lt-leb}
 use Rattle.loops.proofs.Anys.{any-each, any_false}
 use Rattle.loops.proofs.Bools.{or_off}
-use Rattle.plane.specs.Gap.{Mark, an-edge, the-start, the_end, Allowed, GapRule, Close}
+use Rattle.plane.specs.Gap.{Mark, an-edge, the-start, the_end, a-boundary, Allowed, GapRule, Close}
 use Rattle.plane.proofs.Gaps.{gap-close, close-gap}
 use Rattle.gap.specs.Line.{at_least, marked, prev, clashes, clash, line_broken}
 use Rattle.gap.specs.Promises.{Nowhere}
@@ -98,6 +98,7 @@ module _ (edge : ℕ → Option ℕ) (end : ℕ) where
 
   mark-true : (u : ℕ) → M u → m u ≡ true
   unfolding marked at_least
+  mark-true u (a-boundary b) = elim b [ ]
   mark-true u (an-edge c e) =
       ap (λ (x : Bool). (eqb u 0 || eqb u end) || x) (ap (at_least 0) e ∙ le-leb 0 c (omega arith)) ∙ or-true (eqb u 0 || eqb u end)
   mark-true u (the-start p) = ap (λ (x : Bool). (x || eqb u end) || at_least 0 (edge u)) (eq-eqb u 0 p)
@@ -158,6 +159,7 @@ module _ (edge : ℕ → Option ℕ) (end : ℕ) where
 
   module _ (inside : (u c : ℕ) → edge u ≡ some c → u < end) (e : line_broken edge end ≡ false) where
     to_end : (u : ℕ) → M u → u ≤ end
+    to_end u (a-boundary b) = elim b [ ]
     to_end u (an-edge c p) = omega (arith, inside u c p)
     to_end u (the-start p) = omega arith
     to_end u (the_end p) = omega arith

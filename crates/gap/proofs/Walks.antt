@@ -168,4 +168,4 @@ module _ (ms : List ℕ) (luma : Bool) (halves : ℕ) (inside : Bool) (at : ℕ)
   pub run_more : (from i : ℕ) (s t r : Track) → t ≡ run_t ms luma halves inside at from i s → r ≡ unit_at_t ms luma halves inside at (from + i) t
       → r ≡ run_t ms luma halves inside at from (i + 1) s
   unfolding run_t
-  run_more from i s t r e er = up_to-again _ i s e er
+  run_more from i s t r e er = up_to-again (λ k. unit_at_t ms luma halves inside at (from + k)) i s e er

@@ -1,9 +1,9 @@
 -- The gap rule along one line of units as one test, which looks back three units.
 --   at_least        an edge of class c or more
---   marked         a mark: the start, the end, or an edge
---   prev           what held one unit before; nothing does before the start
---   clashes        of m (marks), a (class 1 or more) and b (class 2): the unit and one of the three before it break the rule
---   clash          at unit u
+--   marked          a mark: the start, the end, or an edge
+--   prev            what held one unit before; nothing does before the start
+--   clashes         of m (marks), a (class 1 or more) and b (class 2): the unit and one of the three before it break the rule
+--   clash           at unit u
 --   line_broken     somewhere in the line
 use Rattle.std.specs.Prelude.{Bool, false, ◌&&◌, ◌||◌, ℕ, zero, suc, eqb, leb}
 use Rattle.std.proofs.Math.Option.{Option, some, none}

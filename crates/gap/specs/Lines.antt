@@ -1,8 +1,8 @@
 -- The lines of units of superblock row k, as the code counts them: in the bits of a mask's two halves, of which each holds h lines.
---   bit_of                        the bit of line y, counted from the word's first half
+--   bit_of                         the bit of line y, counted from the word's first half
 --   line_bit, line_word            bit q is that of one of the first n lines; the word of those bits
---   row_lines                     the bits of the row's lines in the frame, from its first half on
---   record_lines                  those of the lines of record rec
+--   row_lines                      the bits of the row's lines in the frame, from its first half on
+--   record_lines                   those of the lines of record rec
 use Rattle.std.specs.Prelude.{Bool, ◌&&◌, ℕ, ◌+◌, ◌-◌, ◌*◌, ◌/◌, ◌%◌, ◌^◌, min, ltb}
 use Rattle.units.specs.Masks.{in_record, row_units, two_halves, half_units}
 use Rattle.units.specs.Units.{chroma_units}

@@ -1,12 +1,12 @@
 -- Numbers 11 and 12 of one plane in superblock row k, as tests. sb4 is the side of a superblock in luma units, 16 or 32.
 --   sb_units         the lines of units of a superblock row
 --   stored_units     the units to the right up to the 128-aligned end
---   part            the n edges of a line from `first` on
---   gap             number 11: some line of the row breaks the gap rule. In columns lines lie along the whole width; in rows they go from the
+--   part             the n edges of a line from `first` on
+--   gap              number 11: some line of the row breaks the gap rule. In columns lines lie along the whole width; in rows they go from the
 --                   row's boundary to the next superblock boundary, not cut at the frame's end
---   half_bit         bit b of half j of a unit across the pass, in the masks; halves are counted along the whole frame
+--   half_bit        bit b of half j of a unit across the pass, in the masks; halves are counted along the whole frame
 --   fits            what number 12 asks of it: a bit that its half may hold, at a unit of the frame
---   bad_half         a bit of this half is set, of any class, and does not fit
+--   bad_half        a bit of this half is set, of any class, and does not fit
 --   outside         number 12: in columns in the halves of this row, of all stored units; in rows in all halves, of the units of this row
 --   Found           the answers to both
 --   RecordFound     those of rows in record rec of the row alone

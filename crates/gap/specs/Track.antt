@@ -2,16 +2,16 @@
 --   word_at              the word of the half at place i, or of the two halves from there on
 --   class_word           the word of class c at unit i, where the first half of unit 0 stands at `at`; there is no class 2 in chroma
 --   clash_w              `clashes` of words
---   start_t, step_t       the state before the first unit; and one unit further, whose classes have the words x, y, b, and z past the frame
---   unit_t, unit_at_t      the same of a unit in the frame or past it; and of the unit stored at i
---   run_t, part_t         m units side by side; and `end` of them, n in the frame
+--   start_t, step_t      the state before the first unit; and one unit further, whose classes have the words x, y, b, and z past the frame
+--   unit_t, unit_at_t    the same of a unit in the frame or past it; and of the unit stored at i
+--   run_t, part_t        m units side by side; and `end` of them, n in the frame
 --   close_t              the lines that break the gap rule, the end being a mark of each
---   cut, past, track    the state after u units of a line, n of which lie in the frame
+--   cut, past, track     the state after u units of a line, n of which lie in the frame
 --   column_words         the words of a line along the records from `base` on, `side` units a record
 --   column_track         the state at the end of the record row of superblock row k, of the row's own halves
 --   row_words            the words of a line in one record, from unit `from` on
 --   row_track            the state at the end of superblock row k in record rec
---   Answers             numbers 11 and 12 of a state, whose words have 32 bits: `live` has those of the lines in the frame
+--   Answers              numbers 11 and 12 of a state, whose words have 32 bits: `live` has those of the lines in the frame
 use Rattle.std.specs.Prelude.{◌≡◌, Bool, true, false, not, cond, List, ℕ, zero, suc, ◌+◌, ◌-◌, ◌*◌, ◌/◌, ◌%◌, ◌^◌, ◌<◌, eqb, ltb, get_or}
 use Rattle.std.specs.Int.Bits.{bit_and, bit_or}
 use Rattle.loops.specs.Run.{up_to}

@@ -1,4 +1,6 @@
 // Numbers 11 and 12: the gap rule and stray mask bits, 32 lines of units at once.
+#![tactic(auto)]
+
 pub mod lines;
 pub mod track;
 
@@ -20,7 +22,7 @@ use units::masks::{
 };
 
 // Numbers 11 and 12.
-#[derive(Drop)]
+#[derive(Clone, Copy)]
 pub struct Both {
     pub gap: bool,
     pub out: bool,

@@ -7,7 +7,7 @@ use units::masks::{two_halves, unit_words};
 
 // Marks, class 1 or more and class 2 of the last three units, and what was found: the lines that break the rule, the edges, and the bits
 // past the frame.
-#[derive(Drop)]
+#[derive(Clone, Copy)]
 pub struct Track {
     pub first: u32,
     pub m1: u32,

@@ -1,5 +1,5 @@
 -- A frame to filter, whose masks hold the standard's edges.
---   frame_grid f n      the units of plane n
+--   frame_grid f n     the units of plane n
 --   HoldsEdges f D n   legal blocks cover plane n of the standard's frame D, and the masks of f hold its edges there
 --   AllHold f D        luma does, and chroma where it is filtered; U and V share their masks
 --   Begun G start s    clear masks, and contexts that hold the start value along the frame

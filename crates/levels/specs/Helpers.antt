@@ -1,5 +1,5 @@
 -- Words for the contracts of the helpers of `levels`.
---   stores f a n l        the list l with f 0, .., f (n - 1) stored from place a on, one after another
+--   stores f a n l         the list l with f 0, .., f (n - 1) stored from place a on, one after another
 --   biased_level .. j      filter_level at reference j / 2 and mode j % 2, with lf and segment delta given 128 above their values
 use Rattle.std.specs.Prelude.{true, List, ℕ, ◌+◌, ◌/◌, ◌%◌, ℤ, set}
 use Rattle.std.proofs.Math.IntN.{sub_ℕ}

@@ -1,13 +1,13 @@
 -- The level values of a frame: document 01, "Limits and levels", by 7.14.5 of the standard.
 --   LevelsIn, levels_in         what the values are made of
---   base_at, lf_delta            the base level and the lf delta of an area
+--   base_at, lf_delta           the base level and the lf delta of an area
 --   area_level x s k r m        the value of segment s, area k, reference r and mode m
 --   luma_off, level x s k r m   and 0 where both luma bases are 0
 --   byte_at x i                 the value of byte i
 --   written x, levels_done x l  how many bytes are written, and the 512 bytes l once they are
---   out_of_range ..              what number 2 refuses
+--   out_of_range ..             what number 2 refuses
 --   levels_number layout x      the number answered
---   LevelsAnswer               the contract of `levels`
+--   LevelsAnswer                the contract of `levels`
 -- Kinds are 0 luma columns, 1 luma rows, 2 U, 3 V.
 use Rattle.std.specs.Prelude.{Bool, not, cond, ◌&&◌, ◌||◌, List, ◌++◌, ◌≡◌, ℕ, ◌+◌, ◌*◌, ◌/◌, ◌%◌, eqb, ltb, ℤ, get_or, drop}
 use Rattle.loops.specs.Any.{any_below}

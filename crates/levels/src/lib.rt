@@ -1,4 +1,6 @@
 // Public: the level values of a frame header. It is `rav1d_calc_lf_values` of the Rust.
+#![tactic(auto)]
+
 ghost use Rattle.std.specs.Prelude.{◌≡◌, cond, ◌&&◌, ◌||◌, ◌+◌, ◌*◌, ◌/◌, ◌%◌, ◌<◌, ◌≤◌, eqb, ltb, get_or, length};
 ghost use Rattle.loops.specs.Any.{any_below};
 ghost use Rattle.loops.specs.Flag.{on};

@@ -3,8 +3,8 @@
 --   table_of s      e and i of each level 0..63, and the two sharp words
 --   no_table        zeros
 --   limits_of s     the answer by value: number 1 and no table above 7
---   lut e i w      a table of its three arrays
---   LimitsLent     the contract of the two forms that fill a lent table: the same number, and a refusal stores nothing
+--   lut e i w       a table of its three arrays
+--   LimitsLent      the contract of the two forms that fill a lent table: the same number, and a refusal stores nothing
 use Rattle.std.specs.Prelude.{cond, List, [], ◌∷◌, ◌≡◌, ℕ, ◌+◌, ◌-◌, ◌/◌, eqb, ltb, replicate}
 use Rattle.loops.specs.Table.{tabulate}
 use Rattle.standard.specs.Strength.{limit, blimit}

@@ -1,17 +1,19 @@
 // Public: the limit table of a sharpness, by value, in the caller's struct, in arrays. It is `rav1d_calc_eih` of the Rust.
+#![tactic(auto)]
+
 ghost use Rattle.std.specs.Prelude.{◌≡◌, ◌+◌, ◌*◌, ◌<◌, ◌≤◌, min, max};
 ghost use Rattle.standard.specs.Strength.{limit};
 ghost use Rattle.limits.specs.Limits.{sharp_cap, limits_of, lut, LimitsLent};
 ghost use Rattle.limits.specs.Promises.{Promises};
 
-#[derive(Drop)]
+#[derive(Clone, Copy)]
 pub struct Av1FilterLUT {
     pub e: [u8; 64],
     pub i: [u8; 64],
     pub sharp: [u64; 2],
 }
 
-#[derive(Drop)]
+#[derive(Clone, Copy)]
 pub struct LimitAnswer {
     pub number: u32,
     pub table: Av1FilterLUT,

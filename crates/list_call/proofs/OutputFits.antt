@@ -7,7 +7,6 @@ use native.Mathlib.Omega.{arith}
 use borrow.Author.Tests.{ltb-false}
 use lib.Dec.{eqb, ltb}
 use lib.ListN.{length}
-use Rattle.list_decimal.specs.Decimal.{decimal}
 use Rattle.list_decimal.proofs.Numerals as decimal
 use Rattle.list_fields.specs.Word.{Bytes}
 use Rattle.list_text.specs.Text.{tab, end, field_text, refused_text, form_text}

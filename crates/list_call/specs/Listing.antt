@@ -1,17 +1,17 @@
 -- The listing of a script: document 01, "Edge listing".
---   push b ls        the lines ls with the byte b before the first
---   lines_of s        the lines of a script: byte 10 ends a line, and a last line without it is a line
---   start            what is kept before the first line: masks cleared, luma contexts 2, chroma contexts 1
---   after k ls       what is kept after the lines ls
---   held_in           what the list is made of
+--   push b ls          the lines ls with the byte b before the first
+--   lines_of s         the lines of a script: byte 10 ends a line, and a last line without it is a line
+--   start              what is kept before the first line: masks cleared, luma contexts 2, chroma contexts 1
+--   after k ls         what is kept after the lines ls
+--   held_in            what the list is made of
 --   text_in, text_of   the output, once the script has ended
---   output_of s       the output of the script s
---   room             bytes that suffice for any output
---   ListAnswer       the contract of `list`
---   Left s           of the states that a script leaves: the frame is proper, and each line before the level line was accepted
---   Texted           the contract of `put_text`
---   Listable         what the code asks of a state that is listed, and of the lengths of the lent memory
---   Taken            the contract of `take_lines`: of the bytes s, those before `at` are taken
+--   output_of s        the output of the script s
+--   room               bytes that suffice for any output
+--   ListAnswer         the contract of `list`
+--   Left s             of the states that a script leaves: the frame is proper, and each line before the level line was accepted
+--   Texted             the contract of `put_text`
+--   Listable           what the code asks of a state that is listed, and of the lengths of the lent memory
+--   Taken              the contract of `take_lines`: of the bytes s, those before `at` are taken
 use Rattle.std.specs.Prelude.{cond, List, [], ◌∷◌, ◌++◌, ◌≡◌, ℕ, ◌+◌, ◌<◌, ◌≤◌, eqb, leb, ltb, length, drop, replicate}
 use Rattle.units.specs.Units.{units_of}
 use Rattle.block.specs.Block.{lent}

@@ -1,4 +1,6 @@
 // Public: a script of bytes into an output of bytes, the edge listing.
+#![tactic(auto)]
+
 ghost use Rattle.std.specs.Prelude.{◌≡◌, ◌+◌, ◌<◌, ◌≤◌, length, replicate};
 ghost use Rattle.list_text.specs.Text.{Put};
 ghost use Rattle.list_edges.specs.Listed.{list_text};
@@ -21,7 +23,7 @@ const LUMA_START: u8 = 2;
 const CHROMA_START: u8 = 1;
 
 // What is carried after the lines taken, and where the rest begins.
-#[derive(Drop)]
+#[derive(Clone, Copy)]
 pub struct Rest {
     pub carried: Carried,
     pub at: usize,

@@ -1,13 +1,13 @@
 -- Numbers as text, in bytes.
 --   is_digit b          the byte is `0` to `9`
---   digits s           every byte is a digit
---   value n s          the digits s after those of n
---   numeral s          1 to 9 digits
+--   digits s            every byte is a digit
+--   value n s           the digits s after those of n
+--   numeral s           1 to 9 digits
 --   no_number           what reading answers for anything else
 --   number_of s         what reading answers
 --   decimal_in k n      its digits, at most k + 1 of them
---   decimal n          the number with no zeros in front
---   pasted l at s      the list l with s in place of what stands from `at` on
+--   decimal n           the number with no zeros in front
+--   pasted l at s       the list l with s in place of what stands from `at` on
 use Rattle.std.specs.Prelude.{Bool, true, ◌&&◌, cond, List, [], ◌∷◌, ◌++◌, ℕ, zero, suc, ◌+◌, ◌-◌, ◌*◌, ◌/◌, ◌%◌, leb, ltb, length, take, drop}
 
 abbrev pub is_digit : ℕ → Bool

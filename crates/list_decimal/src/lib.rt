@@ -1,4 +1,6 @@
 // Decimal numbers: read from bytes, and written into them.
+#![tactic(auto)]
+
 ghost use Rattle.std.specs.Prelude.{◌≡◌, ◌+◌, ◌≤◌, length};
 ghost use Rattle.list_decimal.specs.Decimal.{number_of, decimal, pasted};
 ghost use Rattle.list_decimal.specs.Promises.{Promises};

@@ -21,8 +21,8 @@ use Rattle.list_edges.specs.Promises.{IsEdge, Before, Ordered, Promises}
 
 cat-some : {A : Type 0} {p : A} (f : ℕ → List A) (n : ℕ) → Memᴰ p (cat f n) → (j : ℕ) × (j < n) × Memᴰ p (f j)
 cat-some f zero m = absurd (Memᴰ.not-nil m)
-cat-some f (suc n) m =
-    ⊎_elim (λ a. let r = cat-some f n a in (r.0, omega (arith, r.1), r.2)) (λ a. (n, omega arith, a)) (Memᴰ.append_cases (cat f n) m)
+cat-some {p = p} f (suc n) m =
+    ⊎_elim (λ (a : Memᴰ p (cat f n)). let r = cat-some f n a in (r.0, omega (arith, r.1), r.2)) (λ a. (n, omega arith, a)) (Memᴰ.append_cases (cat f n) m)
 
 ordered-append : (l m : List Edge) → Ordered l → Ordered m → ((e f : Edge) → Memᴰ e l → Memᴰ f m → Before e f) → Ordered (l ++ m)
 ordered-append [] m a b h = b

@@ -1,4 +1,6 @@
 // Fields parted by a byte, and words as numbers.
+#![tactic(auto)]
+
 ghost use Rattle.std.specs.Prelude.{◌≡◌, ◌+◌, ◌<◌, length, drop};
 ghost use Rattle.list_fields.specs.Fields.{cut, place};
 ghost use Rattle.list_fields.specs.Word.{packed};

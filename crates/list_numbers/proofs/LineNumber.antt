@@ -45,7 +45,7 @@ module _ (f : ScriptLine) (width height layout depth superblock sharpness : ℕ)
   abbrev Line₁ : ScriptLine
   Line₁ = Frame width height layout depth superblock sharpness
 
-  frame-faults : {n : ℕ} → Refuses f Line₁ n
+  frame-faults : {g : ScriptLine} {n : ℕ} → Refuses g Line₁ n
       → ((n ≡ 1) × (7 < sharpness)) ⊎ (((n ≡ 3) × DepthFault depth) ⊎ ((n ≡ 4) × ShapeFault width height layout superblock))
   frame-faults (sharpness-above h) = inl (refl, h)
   frame-faults (depth-other h) = inr (inl (refl, h))

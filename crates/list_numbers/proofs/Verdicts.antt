@@ -39,8 +39,18 @@ values_of (Level a b c d) = tabulate (byte_at (bases a b c d)) 64
 values_of (Block a b c d e f) = []
 values_of Form = []
 
+-- a line that has fields says something
+abbrev Said : ScriptLine → Type 0
+Said Form = ⊥
+Said l = Unit {0}
+
+says-so : {fs : List (List ℕ)} {l : ScriptLine} → Says fs l → Said l
+says-so (Says.frame a b c d e f) = tt
+says-so (Says.level a b c d) = tt
+says-so (Says.block a b c d e f g h) = tt
+
 no-form : (fs : List (List ℕ)) → ¬ Says fs Form
-no-form fs = elim [ ]
+no-form fs s = says-so s
 
 module _ (ls : List (List ℕ)) (bytes : (j : ℕ) → Bytes (get_or ls j [])) where
   -- ---- what a line says

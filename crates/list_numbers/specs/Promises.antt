@@ -3,7 +3,7 @@
 --   Formless ls l      line l has `form`, and no line before it has a fault
 --   Refused ls l n     line l has its form and a fault, n is the lowest number that refuses it, and no line before it has a fault
 --   Whole ls           frame and level line are there, and no line has a fault
---   list_of k           the list of what is kept
+--   list_of k          the list of what is kept
 --   Ends ls            one of the three
 --   Keeps ls j k       no line is refused yet; k has the frame of the frame line and the level values of the level line, if these are among the first j lines,
 --                      and memory that suffices

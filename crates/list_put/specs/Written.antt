@@ -1,8 +1,8 @@
 -- What is written of the list.
---   held_of            what is listed from, the level bytes' stride being the frame's width
+--   held_of             what is listed from, the level bytes' stride being the frame's width
 --   held_in, grid_at    of a pass of a plane, and the units of that plane
 --   line_in, plane_in   the edges at line y of a pass; of both passes of a plane
---   Wrote             the edges l were written after what w tells, and r tells the end of them
+--   Wrote               the edges l were written after what w tells, and r tells the end of them
 -- and what the code asks
 --   Fits              a frame of 256 by 256 samples at most, and memory that is long enough
 --   Inside            a unit of a plane of such a frame

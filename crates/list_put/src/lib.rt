@@ -1,4 +1,6 @@
 // The list of a frame's edges, written as text.
+#![tactic(auto)]
+
 mod unit;
 
 ghost use Rattle.std.specs.Prelude.{cond, ◌≡◌, ◌≤◌, ◌<◌, length};
@@ -16,7 +18,7 @@ use units::layout::{has_chroma, plane_ss_hor, plane_ss_ver};
 use units::{LumaUnit, chroma_units};
 
 // A pass of a plane of a frame.
-#[derive(Drop)]
+#[derive(Clone, Copy)]
 pub struct Part {
     pub layout: usize,
     pub w4: LumaUnit,
@@ -26,7 +28,7 @@ pub struct Part {
 }
 
 // The place after what is written, and the edges that were listed.
-#[derive(Drop)]
+#[derive(Clone, Copy)]
 pub struct Written {
     pub at: usize,
     pub edges: usize,

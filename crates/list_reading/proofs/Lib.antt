@@ -1,2 +1,1 @@
-pub mod BufferMoved
 pub mod Turns

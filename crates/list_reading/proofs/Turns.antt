@@ -3,14 +3,13 @@ use mathlib.Core.List.{List, [], ◌∷◌, ◌++◌, append_assoc, append-nil}
 use mathlib.Core.Path.{◌≡◌, refl, sym, ap, ap₂, subst, ◌∙◌}
 use Prim.Native.Nat.{ℕ, zero, suc, ◌+◌, ◌-◌, ◌<◌, ◌≤◌}
 use native.Mathlib.Omega.{arith}
-use lib.ListN.{length, take, drop, length-append, length-take, length-drop}
+use lib.ListN.{length, take, drop, length-append, length-drop}
 use lib.Seq.{take-nil, take-add, drop-drop, length-take-le}
-use Rattle.io.specs.Counts.{IsPrefixLen}
 use Rattle.list_text.specs.Text.{Put}
 use Rattle.list_steps.specs.Steps.{Kept}
 use Rattle.list_call.specs.Listing.{lines_of, start, after, output_of, Taken, Texted}
 use Rattle.list_call.proofs.Texts.{from_start, text-put}
-use Rattle.list_reading.specs.Reading.{rest, last, Safe, Reads, Roomy, Adds, Reached, Ended, ListedAnswer}
+use Rattle.list_reading.specs.Reading.{IsPrefixLen, rest, last, Safe, Reads, Roomy, Adds, Reached, Ended, ListedAnswer}
 
 -- ---- the rest
 
@@ -40,26 +39,7 @@ rest-less at j e b =
 length_rest : (at e : ℕ) (b : List ℕ) → e ≤ length b → length (rest at e b) ≡ e - at
 length_rest at e b h = length-take-le (e - at) (drop at b) (omega (arith, length-drop at b))
 
--- ---- room
-
-pub room-there : (b : List ℕ) (at held : ℕ) → Roomy b at held b 0
-room-there b at held =
-    let x : held - 0 - (at - 0) ≡ held - at = omega arith in
-    let y : at - 0 ≡ at = omega arith in
-    record { less = omega arith; kept = ap₂ (λ (i j : ℕ). take i (drop j b)) x y; early = λ _. (refl, refl) }
-
-pub room-made : (b : List ℕ) (at held : ℕ) (c : List ℕ) → at ≤ held → length b ≤ held → take (held - at) c ≡ take (held - at) (drop at b) → Roomy b at held c at
-room-made b at held c h f e =
-    let x : held - at - (at - at) ≡ held - at = omega arith in
-    let y : at - at ≡ 0 = omega arith in
-    record { less = omega arith; kept = ap₂ (λ (i j : ℕ). take i (drop j c)) x y ∙ e; early = λ g. absurd (omega arith) }
-
 -- ---- a part
-
-pub lines_fit : (line at held read size gone n most : ℕ) (b : List ℕ) → Safe line at held read size → gone ≤ at → n ≤ most → read + most < 18446744073709551616
-    → line + length (rest (at - gone) (held - gone + n) b) < 18446744073709551616
-lines_fit line at held read size gone n most b safe g f h =
-    omega (arith, safe.lines, safe.part, length-take (held - gone + n - (at - gone)) (drop (at - gone) b))
 
 module _ (k : Kept) (at held read : ℕ) (b : List ℕ) (safe : Safe k.state.line at held read (length b)) (b₁ : List ℕ) (gone : ℕ) (long₁ : length b₁ ≡ length b)
     (roomy : Roomy b at held b₁ gone) (b₂ : List ℕ) (n most : ℕ) (long₂ : length b₂ ≡ length b₁)
@@ -73,9 +53,6 @@ module _ (k : Kept) (at held read : ℕ) (b : List ℕ) (safe : Safe k.state.lin
   module _ (m : Kept) (j : ℕ) (taken : Taken k (rest (at - gone) (held - gone + n) b₂) m j) where
     taken_in : j ≤ held - gone + n - (at - gone)
     taken_in = omega (arith, taken.part, length_rest (at - gone) (held - gone + n) b₂ (omega (arith, got.1)))
-
-    pub at-fits : read + most < 18446744073709551616 → at - gone + j < 18446744073709551616
-    at-fits h = omega (arith, taken_in, safe.part, safe.fewer, roomy.less, got.2)
 
     module _ (start : Kept) (bytes : List ℕ) (g : Reads start bytes k at held read b) where
       new : List ℕ

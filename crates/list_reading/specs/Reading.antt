@@ -1,4 +1,5 @@
 -- A script that is read in parts, to a buffer: its first `held` bytes were read, and those before `at` are taken.
+--   IsPrefixLen   `&xs[..n]` is in bounds, and has n elements
 --   rest          the bytes that are held and not yet taken
 --   last n        the last n bytes that are held
 --   Safe          what keeps the places inside the buffer, and the number of the line in range
@@ -11,10 +12,12 @@
 --   Ended         the contract of `read_script`: k is kept after the lines of all bytes read
 --   ListedAnswer  the contract of `listed`: the text stored is the listing of all bytes read
 use Rattle.std.specs.Prelude.{List, ◌++◌, ◌≡◌, ℕ, ◌+◌, ◌-◌, ◌<◌, ◌≤◌, length, take, drop}
-use Rattle.io.specs.Counts.{IsPrefixLen}
 use Rattle.list_text.specs.Text.{Put}
 use Rattle.list_steps.specs.Steps.{Kept}
 use Rattle.list_call.specs.Listing.{lines_of, after, output_of}
+
+abbrev pub IsPrefixLen : ℕ → List ℕ → Type 0
+IsPrefixLen n xs = (n ≤ length xs) × (n ≡ length (take n xs))
 
 abbrev pub rest : ℕ → ℕ → List ℕ → List ℕ
 rest at held buffer = take (held - at) (drop at buffer)

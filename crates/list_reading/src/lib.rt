@@ -1,21 +1,23 @@
-// Standard input read in parts, and its listing.
+// A script read in parts, and its listing.
+#![tactic(auto)]
+
 ghost use Rattle.std.specs.Prelude.{◌≡◌, ◌+◌, ◌<◌, ◌≤◌, length, take, drop};
 ghost use Rattle.list_steps.specs.Steps.{kept_of};
 ghost use Rattle.list_reading.specs.Reading.{Safe, Roomy, Adds, Reached, Ended, ListedAnswer};
 
-use libc::STDIN_FILENO;
 use list_call::{put_text, run, start, take_lines};
 use list_steps::Carried;
+use std::io::Read;
 
 // The bytes of one read, and whether it failed.
-#[derive(Drop)]
+#[derive(Clone, Copy)]
 struct Got {
     n: usize,
     failed: bool,
 }
 
 // The buffer's first `held` bytes were read, of which those before `at` are taken; `read` bytes in all.
-#[derive(Drop)]
+#[derive(Clone, Copy)]
 struct Progress {
     carried: Carried,
     at: usize,
@@ -25,7 +27,7 @@ struct Progress {
 }
 
 // What is carried after all lines, the last with its end or without; the bytes read; whether a read failed.
-#[derive(Drop)]
+#[derive(Clone, Copy)]
 struct Script {
     carried: Carried,
     read: usize,
@@ -33,7 +35,7 @@ struct Script {
 }
 
 // The bytes read, the bytes of the listing, and whether a read failed.
-#[derive(Drop)]
+#[derive(Clone, Copy)]
 pub struct Answer {
     pub read: usize,
     pub stored: usize,
@@ -47,15 +49,14 @@ fn least(a: usize, b: usize) -> usize
 }
 
 // One read, of at most `most` bytes, to the places from `held` on.
-fn read_more(buf: &mut [u8], held: usize, most: usize) -> Got
+fn read_more<R: Read>(input: &mut R, buf: &mut [u8], held: usize, most: usize) -> Got
     requires { held ≤ length buf.old }
     ensures { (take held buf.new ≡ take held buf.old) × (held + result.n ≤ length buf.old) × (result.n ≤ most) }
 {
     let e = held + least(most, buf.len() - held);
-    let got = libc::read(STDIN_FILENO, &mut buf[held..e]);
-    Got {
-        n: io::count(got, &buf[held..e]),
-        failed: got < 0,
+    match input.read(&mut buf[held..e]) {
+        Ok(n) => Got { n, failed: false },
+        Err(_) => Got { n: 0, failed: true },
     }
 }
 
@@ -63,11 +64,7 @@ fn move_to_front(buf: &mut [u8], at: usize, n: usize)
     requires { at + n ≤ length buf.old }
     ensures { take n buf.new ≡ take n (drop at buf.old) }
 {
-    let mut i = 0;
-    while i < n {
-        buf[i] = buf[at + i];
-        i += 1;
-    }
+    buf.copy_within(at..at + n, 0);
 }
 
 // Of a full buffer the bytes that are taken go. It answers how many.
@@ -83,7 +80,8 @@ fn make_room(buf: &mut [u8], at: usize, held: usize) -> usize
 }
 
 // One read, and the whole lines that are held then.
-fn part(
+fn part<R: Read>(
+    input: &mut R,
     p: Progress,
     most: usize,
     buf: &mut [u8],
@@ -97,12 +95,11 @@ fn part(
     let gone = make_room(buf, p.at, p.held);
     let at = p.at - gone;
     let held = p.held - gone;
-    let got = read_more(buf, held, most);
+    let got = read_more(input, buf, held, most);
     let e = held + got.n;
     let r = take_lines(p.carried, &buf[at..e], levels, masks);
-    let k = r.carried;
     Progress {
-        carried: k,
+        carried: r.carried,
         at: at + r.at,
         held: e,
         read: p.read + got.n,
@@ -111,7 +108,8 @@ fn part(
 }
 
 // Reads to the end of the input, to `total` bytes or to a refused line.
-fn parts(
+fn parts<R: Read>(
+    input: &mut R,
     c: Carried,
     total: usize,
     most: usize,
@@ -132,13 +130,11 @@ fn parts(
     };
     let mut read = 0;
     while read < total {
-        p = part(p, least(most, total - read), buf, levels, masks);
-        let k = p.carried;
-        let s = k.state;
+        p = part(input, p, least(most, total - read), buf, levels, masks);
         if p.read == read {
             return p;
         }
-        if s.number != 0 {
+        if p.carried.state.number != 0 {
             return p;
         }
         read = p.read;
@@ -146,7 +142,8 @@ fn parts(
     p
 }
 
-fn read_script(
+fn read_script<R: Read>(
+    input: &mut R,
     c: Carried,
     total: usize,
     most: usize,
@@ -158,29 +155,31 @@ fn read_script(
     ensures { Ended (kept_of c levels.old masks.old) total
         (kept_of result.carried levels.new masks.new) result.read buf.new }
 {
-    let p = parts(c, total, most, buf, levels, masks);
-    let at = p.at;
-    let held = p.held;
-    let k = run(p.carried, &buf[at..held], levels, masks);
+    let p = parts(input, c, total, most, buf, levels, masks);
     Script {
-        carried: k,
+        carried: run(p.carried, &buf[p.at..p.held], levels, masks),
         read: p.read,
         failed: p.failed,
     }
 }
 
-// Reads standard input in parts of at most `most` bytes, to its end, to `total` bytes, to a refused line or to one that fills the buffer, and
+// Reads a script in parts of at most `most` bytes, to its end, to `total` bytes, to a refused line or to one that fills the buffer, and
 // stores the listing. No line of 65,536 bytes or more is accepted.
-pub fn listed(total: usize, most: usize, buf: &mut [u8], text: &mut [u8; 393255]) -> Answer
+pub fn listed<R: Read>(
+    input: &mut R,
+    total: usize,
+    most: usize,
+    buf: &mut [u8],
+    text: &mut [u8; 393255],
+) -> Answer
     ensures { ListedAnswer total result.read buf.new result.stored text.old text.new }
 {
     let mut levels = [0u8; 16384];
     let mut masks = [0u16; 2560];
-    let r = read_script(start(), total, most, buf, &mut levels, &mut masks);
-    let k = r.carried;
+    let r = read_script(input, start(), total, most, buf, &mut levels, &mut masks);
     Answer {
         read: r.read,
-        stored: put_text(k.state, &levels, &masks, text),
+        stored: put_text(r.carried.state, &levels, &masks, text),
         failed: r.failed,
     }
 }

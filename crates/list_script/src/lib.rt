@@ -1,4 +1,6 @@
 // A line of a script: `frame`, `level` or `block` with its fields.
+#![tactic(auto)]
+
 mod names;
 
 ghost use Rattle.std.specs.Prelude.{◌≡◌, cond, eqb, ◌+◌, ◌<◌, ◌≤◌, length};
@@ -27,7 +29,7 @@ const NONE: u64 = 0x01_2D;
 const EMPTY: u64 = 1;
 
 // Codes as `record_intra` takes them: 22 and 19 are sizes that name nothing.
-#[derive(Drop)]
+#[derive(Clone, Copy)]
 pub enum ScriptLine {
     Frame {
         width: u32,

@@ -114,15 +114,27 @@ alike {k} (begins e) = alike_same k.memory
 alike {k} (levels e) = alike_same k.memory
 alike {k} (records {x} {y} {size} {tx} {chroma} {uvtx} e) = stored-alike (block_of k.state x y size tx chroma uvtx) k.values k.memory e
 
-as-recorded : {k j : Kept} {x y size tx chroma uvtx : ℕ} → Outcome k (BlockLine x y size tx chroma uvtx) j → j.state.number ≡ 0
-    → let b = block_of k.state x y size tx chroma uvtx in Stored b (w4 b) k.values [] (at_block b k.memory) (at_block b j.memory)
-as-recorded (refuses n z) e = absurd (z e)
-as-recorded {k} {x = x} {y} {size} {tx} {chroma} {uvtx} (records z) e = stored_is (block_of k.state x y size tx chroma uvtx) k.values k.memory z
+-- the block that a line says; 0s for a line that says none
+abbrev block_said : Kept → ScriptLine → Block
+block_said k (BlockLine x y size tx chroma uvtx) = block_of k.state x y size tx chroma uvtx
+block_said k l = block_of k.state 0 0 0 0 0 0
 
-as_before : {k j : Kept} {x y size tx chroma uvtx : ℕ} → Outcome k (BlockLine x y size tx chroma uvtx) j
-    → Before (block_of k.state x y size tx chroma uvtx) j.memory k.memory
-as_before {k} (refuses n z) = before_same _ k.memory
-as_before {k} {x = x} {y} {size} {tx} {chroma} {uvtx} (records z) = stored-before (block_of k.state x y size tx chroma uvtx) k.values k.memory z
+abbrev SaysBlock : ScriptLine → Type 0
+SaysBlock (BlockLine x y size tx chroma uvtx) = Unit {0}
+SaysBlock l = ⊥
+
+as-recorded : {k j : Kept} {l : ScriptLine} → Outcome k l j → SaysBlock l → j.state.number ≡ 0
+    → let b = block_said k l in Stored b (w4 b) k.values [] (at_block b k.memory) (at_block b j.memory)
+as-recorded (refuses n z) i e = absurd (z e)
+as-recorded (begins z) i e = absurd i
+as-recorded (levels z) i e = absurd i
+as-recorded {k} (records {x} {y} {size} {tx} {chroma} {uvtx} z) i e = stored_is (block_of k.state x y size tx chroma uvtx) k.values k.memory z
+
+as_before : {k j : Kept} {l : ScriptLine} → Outcome k l j → SaysBlock l → Before (block_said k l) j.memory k.memory
+as_before {k} {l = l} (refuses n z) i = before_same (block_said k l) k.memory
+as_before (begins z) i = absurd i
+as_before (levels z) i = absurd i
+as_before {k} (records {x} {y} {size} {tx} {chroma} {uvtx} z) i = stored-before (block_of k.state x y size tx chroma uvtx) k.values k.memory z
 
 keeps : {k j : Kept} {l : ScriptLine} → Outcome k l j → ((x y size tx chroma uvtx : ℕ) → ¬ (l ≡ BlockLine x y size tx chroma uvtx)) → j.memory ≡ k.memory
 keeps (refuses n z) h = refl
@@ -144,10 +156,10 @@ promises =
       records = λ k s x y size tx chroma uvtx e f.
           let b = block_of k.state x y size tx chroma uvtx in
           by-outcome k s (λ j. j.state.number ≡ 0 → Stored b (w4 b) k.values [] (at_block b k.memory) (at_block b j.memory))
-          (λ n. absurd (n e)) (λ _ j o. as-recorded (rw f at o));
+          (λ n. absurd (n e)) (λ _ j o. as-recorded (rw f at o) tt);
       before = λ k s x y size tx chroma uvtx f.
           let b = block_of k.state x y size tx chroma uvtx in
-          by-outcome k s (λ j. Before b j.memory k.memory) (λ _. before_same b k.memory) (λ _ j o. as_before (rw f at o));
+          by-outcome k s (λ j. Before b j.memory k.memory) (λ _. before_same b k.memory) (λ _ j o. as_before (rw f at o) tt);
       keeps = λ k s h. by-outcome k s (λ j. j.memory ≡ k.memory) (λ _. refl) (λ _ j o. keeps o h);
       refused = λ k s. by-outcome k s (λ j. ¬ (j.state.number ≡ 0) → j.memory ≡ k.memory) (λ _ _. refl) (λ e j o. refused-keeps o e);
     }

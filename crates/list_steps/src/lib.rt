@@ -1,4 +1,6 @@
 // One line of a script: the frame, its levels, a block recorded.
+#![tactic(auto)]
+
 mod blocks;
 mod frame;
 mod level;
@@ -16,7 +18,7 @@ use units::numbers::FORM;
 const LONGEST: usize = 65535;
 
 // phase is 0 before the frame line, 1 before the level line, 2 after it; number is 0 until a line is refused.
-#[derive(Drop)]
+#[derive(Clone, Copy)]
 pub struct State {
     pub line: u64,
     pub phase: u32,
@@ -27,7 +29,7 @@ pub struct State {
 }
 
 // What goes from line to line by value: the state, the level values, the contexts of luma and of chroma. Level bytes and masks are lent.
-#[derive(Drop)]
+#[derive(Clone, Copy)]
 pub struct Carried {
     pub state: State,
     pub values: [u8; 64],

@@ -1,11 +1,11 @@
 -- The listing as text, in bytes.
---   tab, end                        what parts fields, and what ends a line
---   field_text n b                   a number and the byte b after it
---   edge_text                        the line of an edge
---   header                          the line of names: plane, pass, x, y, class, level
---   total_text n                     the last line: edges, and how many
+--   tab, end                          what parts fields, and what ends a line
+--   field_text n b                    a number and the byte b after it
+--   edge_text                         the line of an edge
+--   header                            the line of names: plane, pass, x, y, class, level
+--   total_text n                      the last line: edges, and how many
 --   refused_text l n, form_text l     the line l refused, by a number or by its form
---   Put l at s k e                  k is the list l with s stored from `at` on, and e is the place after it
+--   Put l at s k e                    k is the list l with s stored from `at` on, and e is the place after it
 use Rattle.std.specs.Prelude.{List, [], ◌∷◌, ◌++◌, ◌≡◌, ℕ, ◌+◌, length}
 use Rattle.list_decimal.specs.Decimal.{decimal, pasted}
 

@@ -1,4 +1,6 @@
 // The listing as text. Each function answers the place after what it stored.
+#![tactic(auto)]
+
 ghost use Rattle.std.specs.Prelude.{◌+◌, ◌≤◌, length};
 ghost use Rattle.list_text.specs.Promises.{Promises};
 ghost use Rattle.list_text.specs.Text.{field_text, edge_text, total_text, refused_text, form_text, header, Put};

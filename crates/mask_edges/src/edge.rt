@@ -8,7 +8,7 @@ use units::masks::edge_word;
 
 // `unit` and `across` are the block's place and visible size across the pass, `place` and `along` along it; a half of a mask holds
 // `half` units.
-#[derive(Drop)]
+#[derive(Clone, Copy)]
 pub struct BlockPass {
     pub luma: bool,
     pub half: usize,

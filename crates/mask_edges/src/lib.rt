@@ -1,4 +1,6 @@
 // Recording of a block's edges into one record of masks, and of its last column and row into the contexts.
+#![tactic(auto)]
+
 mod cells;
 mod edge;
 mod grid;

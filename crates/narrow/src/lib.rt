@@ -1,5 +1,7 @@
 // The narrow filter of one line, 7.14.6.3. The standard's signed values are kept as unsigned ones with an offset: a filter value as its
 // sum with 8 * half, an eighth of one as its sum with half.
+#![tactic(auto)]
+
 ghost use Rattle.std.specs.Prelude.{◌≡◌, ◌+◌, ◌*◌, ◌<◌, ◌≤◌, true, false};
 ghost use Rattle.std.proofs.Math.IntN.{sub_ℕ};
 ghost use Rattle.standard.specs.Narrow.{filter4_clamp, base_filter, filter12, moved, narrow};
@@ -81,7 +83,7 @@ fn unclamped(half: u32, v: u32) -> bool
 }
 
 // The line after the narrow filter, where it is known: no step clamps then.
-#[derive(Drop)]
+#[derive(Clone, Copy)]
 pub struct Plain {
     pub known: bool,
     pub line: LineSamples,

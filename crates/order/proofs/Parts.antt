@@ -30,6 +30,7 @@ module _ {A : Type 0} where
   distinct-right (x ∷ l) m d = distinct-right l m d.1
 
   distinct-across : {x y : A} (l m : List A) → Distinct (l ++ m) → Memᴰ x l → Memᴰ y m → x ≢ y
+  distinct-across {y = y} [] m d i n = elim i [ ]
   distinct-across {y} (z ∷ l) m d (Memᴰ.head e) n = subst (λ w. w ≢ y) (sym e) (all-at (λ w. z ≢ w) (l ++ m) d.0 (Memᴰ.append_right l n))
   distinct-across (z ∷ l) m d (Memᴰ.tail x) n = distinct-across l m d.1 x n
 
@@ -43,9 +44,11 @@ module _ {A : Type 0} where
   -- ---- a piece of all parts stands in one
 
   part_of : {x : A} (qs : List (List A)) → Memᴰ x (flat qs) → (a : ℕ) × Memᴰ x (part qs a)
+  part_of [] n = elim n [ ]
   part_of (q ∷ qs) n = ⊎_elim (λ u. (0, u)) (λ u. let r = part_of qs u in (suc r.0, r.1)) (Memᴰ.append_cases q n)
 
   of_part : {x : A} (qs : List (List A)) (a : ℕ) → Memᴰ x (part qs a) → Memᴰ x (flat qs)
+  of_part [] a n = elim n [ ]
   of_part (q ∷ qs) zero n = Memᴰ.append_left (flat qs) n
   of_part (q ∷ qs) (suc a) n = Memᴰ.append_right q (of_part qs a n)
 
@@ -55,6 +58,7 @@ module _ {A : Type 0} where
   part-distinct (q ∷ qs) d (suc a) = part-distinct qs (distinct-right q (flat qs) d) a
 
   parts-differ : {x y : A} (qs : List (List A)) → Distinct (flat qs) → (a b : ℕ) → a ≢ b → Memᴰ x (part qs a) → Memᴰ y (part qs b) → x ≢ y
+  parts-differ {y = y} [] d a b n u v = elim u [ ]
   parts-differ (q ∷ qs) d zero zero n u v = absurd (n refl)
   parts-differ (q ∷ qs) d zero (suc b) n u v = distinct-across q (flat qs) d u (of_part qs b v)
   parts-differ (q ∷ qs) d (suc a) zero n u v = λ e. distinct-across q (flat qs) d v (of_part qs a u) (sym e)

@@ -1,8 +1,8 @@
 -- Demand 3: the order of the edge pieces does not matter.
---     Order, OrderIn                  a list that has each edge piece of a pass once, over the frame or in one superblock row
---     Divided                         what holds of a division into parts, each the work of one of several workers
---     Demand3                         of one plane
---     NearSample, Sees                how far a sample sees
+--     Order, OrderIn                   a list that has each edge piece of a pass once, over the frame or in one superblock row
+--     Divided                          what holds of a division into parts, each the work of one of several workers
+--     Demand3                          of one plane
+--     NearSample, Sees                 how far a sample sees
 --     all_of, Orders, Frame3           of the three planes of a frame together
 use Rattle.std.specs.Prelude.{ℕ, ◌+◌, ◌*◌, ◌/◌, ◌%◌, ◌≤◌, ◌<◌, ◌≡◌, List, [], ◌∷◌, length, get_or, take, drop}
 use Rattle.loops.specs.Run.{run, Once, up_to}

@@ -12,7 +12,7 @@ use Rattle.bits.specs.Mark.{is_set, mark}
 use Rattle.bits.proofs.Marks.{length-mark, is_set-mark}
 use Rattle.plane.specs.Line.{Pass, columns, rows, Piece, other, pass_no}
 use Rattle.plane.specs.Three.{Three}
-use Rattle.plane.specs.Plane.{right, down}
+use Rattle.plane.specs.Plane.{down}
 use Rattle.units.specs.Frame.{records, frame_records}
 use Rattle.units.specs.Layout.{ss_hor, ss_ver}
 use Rattle.units.specs.Masks.{luma_word, chroma_word, half_units}

@@ -6,7 +6,7 @@
 --   SameSamples c n ..        these samples
 --   SameTables c ..           the level bytes of this pass and the bits, of each plane that it filters
 --   SameLent c m m'           and the samples
---   with_samples m s           the lent memory with other samples
+--   with_samples m s          the lent memory with other samples
 use Rattle.std.specs.Prelude.{List, ◌≡◌, ℕ, ◌+◌, ◌*◌, ◌≤◌, ◌<◌, length, get_or}
 use Rattle.bits.specs.Mark.{is_set}
 use Rattle.plane.specs.Line.{Pass, columns, rows, pass_no}

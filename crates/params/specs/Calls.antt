@@ -2,12 +2,12 @@
 --   no_params             zeros
 --   answered n, read_of   what `read` answers: number 23, or parameters and how many bits they took
 --   write_number          the number that `write` answers, with so many bits of room
---   WriteAnswer          its contract: the number, the count and every byte
+--   WriteAnswer           its contract: the number, the count and every byte
 --   Lent, lent_of         what `read_into` is lent beside the bytes
---   shown                parameters in those arrays
---   ReadLent             its contract: the same number, and a refusal stores nothing
+--   shown                 parameters in those arrays
+--   ReadLent              its contract: the same number, and a refusal stores nothing
 --   fields_of             the parameters in the arrays of `write_from`
---   WriteLent            its contract
+--   WriteLent             its contract
 use Rattle.std.specs.Prelude.{cond, List, [], ◌∷◌, ◌++◌, ◌≡◌, ℕ, ◌+◌, ◌-◌, ◌*◌, eqb, ltb, ℤ, pos, length, get_or, replicate}
 use Rattle.std.proofs.Math.Option.{Option, some, none}
 use Rattle.loops.specs.Table.{tabulate}

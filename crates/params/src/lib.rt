@@ -1,4 +1,6 @@
 // Public: the loop filter parameters of a frame header, read from its bits and written.
+#![tactic(auto)]
+
 ghost use Rattle.std.specs.Prelude.{◌≡◌};
 ghost use Rattle.loops.specs.Flag.{on};
 ghost use Rattle.standard.specs.Header.{given};
@@ -10,14 +12,14 @@ use params_read::{defaults, parsed};
 use params_unfit::unfit;
 use standard::Params;
 
-#[derive(Drop)]
+#[derive(Clone, Copy)]
 pub struct ParamsAnswer {
     pub number: u32,
     pub count: u32,
     pub params: Params,
 }
 
-#[derive(Drop)]
+#[derive(Clone, Copy)]
 pub struct Written {
     pub number: u32,
     pub count: u32,

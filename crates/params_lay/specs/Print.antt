@@ -1,8 +1,8 @@
 -- The bits that say some parameters: 5.9.11 the other way round.
---   levels_digits n l         the levels, with n planes
---   switch_digits s e u       sharpness, delta_enabled, and delta_update where that is 1
---   delta_digits u d          an update bit, and its delta where it is 1
---   deltas_digits us ds n     the first n of them
+--   levels_digits n l        the levels, with n planes
+--   switch_digits s e u      sharpness, delta_enabled, and delta_update where that is 1
+--   delta_digits u d         an update bit, and its delta where it is 1
+--   deltas_digits us ds n    the first n of them
 --   printed n p, print g p   all fields, where bits are sent, and else no bits
 --   OneBits p                delta_enabled, delta_update and all update bits are 0 or 1
 use Rattle.std.specs.Prelude.{cond, List, [], ◌++◌, ℕ, zero, suc, ◌*◌, ◌<◌, ℤ, get_or}

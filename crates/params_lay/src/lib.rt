@@ -1,4 +1,6 @@
 // The fields of 5.9.11, counted, and laid one after another.
+#![tactic(auto)]
+
 ghost use Rattle.std.specs.Prelude.{List, ◌++◌, ◌≡◌, ℕ, ◌+◌, ◌*◌, ◌<◌, ◌≤◌, ℤ, length, get_or};
 ghost use Rattle.bit_place.specs.Place.{digits, laid};
 ghost use Rattle.params_lay.specs.Print.{switch_digits, deltas_digits, printed, OneBits};

@@ -1,4 +1,6 @@
 // `read` and `write` of `params` on lent arrays, for C.
+#![tactic(auto)]
+
 ghost use Rattle.std.specs.Prelude.{◌++◌, ◌≡◌, get_or};
 ghost use Rattle.loops.specs.Flag.{on};
 ghost use Rattle.loops.specs.Table.{tabulate};

@@ -1,5 +1,5 @@
 -- What a reader takes of a stream of bits.
---   chroma_bits n l      the bits of a chroma level, with n planes and the levels l
+--   chroma_bits n l     the bits of a chroma level, with n planes and the levels l
 --   Reads P a s p c     at place p of the stream s the reader P says a and takes c bits; with fewer it runs out
 use Rattle.std.specs.Prelude.{cond, List, ◌≡◌, ℕ, ◌+◌, ◌<◌, get_or}
 use Rattle.std.proofs.Math.Option.{some, none}

@@ -1,4 +1,6 @@
 // The fields of 5.9.11, read one after another. Past the end of the bytes all bits are 0, so that one test of the count says whether they ran out.
+#![tactic(auto)]
+
 ghost use Rattle.std.specs.Prelude.{◌≡◌, false, cond, ◌+◌, ◌-◌, ◌*◌, ◌<◌, ◌≤◌, eqb, length, replicate};
 ghost use Rattle.standard.specs.Header.{su_of, given, has_chroma, default_refs, off, levels, sent};
 ghost use Rattle.standard.specs.Header as Header;
@@ -8,7 +10,7 @@ ghost use Rattle.params_read.specs.Reads.{chroma_bits, Reads};
 use bit_place::{number, su7};
 use standard::Params;
 
-#[derive(Drop)]
+#[derive(Clone, Copy)]
 pub struct Taken {
     pub count: usize,
     pub params: Params,

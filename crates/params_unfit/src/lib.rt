@@ -1,4 +1,6 @@
 // Whether no bits say some parameters: what number 24 refuses.
+#![tactic(auto)]
+
 ghost use Rattle.std.specs.Prelude.{◌≡◌, cond, ◌≤◌, length};
 ghost use Rattle.standard.specs.Header.{default_refs, default_modes, has_chroma};
 ghost use Rattle.params_unfit.specs.Unfit.{unfit_delta, unfit_deltas, unfit_levels, unfit_fields, unfit_as};

@@ -1,13 +1,13 @@
 -- What an accepted block leaves in the frame's buffers, document 01, "Units and lent memory" and "Recording", in whatever order it is done.
---   LumaSeen, ChromaSeen     (x, y) is a unit of the visible block in its plane; of chroma only where the pair is given
---   Seen                     in the plane of the level byte `area`
---   Levels                   the value of each area at each visible unit, and every other byte as before
+--   LumaSeen, ChromaSeen       (x, y) is a unit of the visible block in its plane; of chroma only where the pair is given
+--   Seen                       in the plane of the level byte `area`
+--   Levels                     the value of each area at each visible unit, and every other byte as before
 --   luma_block, chroma_block   the block in its record of masks
---   in_frame                  the bit of an edge in the frame's masks, records being of 640 words of 16 bits
---   edge_of                   e is the bit of an edge of a block, in either pass
+--   in_frame                   the bit of an edge in the frame's masks, records being of 640 words of 16 bits
+--   edge_of                    e is the bit of an edge of a block, in either pass
 --   luma_edge, chroma_edge     of the recorded block, in the frame's masks; a plane with no visible unit has none
---   Masks                    the bits of the block's edges are set, and no other changes
---   Stored                   all that is stored
+--   Masks                      the bits of the block's edges are set, and no other changes
+--   Stored                     all that is stored
 use Rattle.std.specs.Prelude.{Bool, true, false, cond, ◌&&◌, ◌||◌, List, ◌≡◌, ℕ, ◌+◌, ◌*◌, ◌%◌, ◌<◌, ◌≤◌, length, get_or}
 use Rattle.bits.specs.Mark.{is_set}
 use Rattle.units.specs.Units.{chroma_unit}

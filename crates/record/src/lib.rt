@@ -1,4 +1,6 @@
 // Public: one intra or inter block into level bytes, masks and contexts.
+#![tactic(auto)]
+
 mod level_bytes;
 mod masks;
 

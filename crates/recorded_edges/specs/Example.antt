@@ -1,9 +1,9 @@
 -- Three blocks that meet the hypotheses, intra, each with one transform: two of 8x8 at 4:0:0, and one of 16x16 at 4:2:0.
 --   frame_with width first before t   the standard's frame of `width` by 8 samples: blocks of 8x8 from unit `first` on, before it those of code `before` with transform t
---   coded_at, block_at                 the block at unit `first`, in the frame and of the call
+--   coded_at, block_at                the block at unit `first`, in the frame and of the call
 --   lent_with left                    clear masks, contexts above as a frame begins, and `left` on the left
---   Beside                           document 01's example of a listing: 16 by 8 samples, a block at unit 2 beside one at unit 0, whose context tells 8x8. The edge between them is 8 wide
---   TileStart                        72 by 8 samples, the block at unit 16, where a tile begins, and so do its contexts; before it blocks of 4x4. The edge is recorded with width 8, and its
+--   Beside                            document 01's example of a listing: 16 by 8 samples, a block at unit 2 beside one at unit 0, whose context tells 8x8. The edge between them is 8 wide
+--   TileStart                         72 by 8 samples, the block at unit 16, where a tile begins, and so do its contexts; before it blocks of 4x4. The edge is recorded with width 8, and its
 --                correction makes it 4
 --   frame_uv, coded_uv, block_uv, lent_uv   32 by 16 samples at 4:2:0, blocks of 16x16 with chroma transforms of 8x8; the second, at unit 4, beside the first
 --   InChroma                         the edge between them is 6 wide in chroma

@@ -2,16 +2,16 @@
 --   ss_in luma b d              ss of the direction across the pass d
 --   place_in luma b d           the block's first unit there
 --   block_grid luma b           the plane's units
---   SeenIn luma b d p          p is one of the visible units
+--   SeenIn luma b d p           p is one of the visible units
 --   lent_context luma d m       the context lent along the pass
 --   block_tx luma b tm x y      the transform of the block at a unit, counted from its corner
---   HoldsBlock                 the frame D has the call's block as C, a legal block, and LoopfilterTxSizes has its transforms
---   ContextTells               where the pass meets the block, the context holds the class of the transform before
+--   HoldsBlock                  the frame D has the call's block as C, a legal block, and LoopfilterTxSizes has its transforms
+--   ContextTells                where the pass meets the block, the context holds the class of the transform before
 --   standard_edge D plane d p   the standard's edge: its filter's length, by 7.14.3, if apply_filter holds
---   stands o                   there is an edge
+--   stands o                    there is an edge
 --   width_in plane o            the width of an edge's class
---   greater o q                of two edges the wider one
---   Stays G d p ms ms'         the bits of a unit's edge are the same in both
+--   greater o q                 of two edges the wider one
+--   Stays G d p ms ms'          the bits of a unit's edge are the same in both
 use Rattle.std.specs.Prelude.{Bool, true, false, cond, not, ◌&&◌, List, ◌≡◌, ℕ, ◌-◌, ◌<◌, max, eqb, get_or}
 use Rattle.std.proofs.Math.Option.{Option, some, none}
 use Rattle.bits.specs.Mark.{is_set}

@@ -1,21 +1,22 @@
 // Lent memory, read and written.
 ghost use Rattle.std.specs.Prelude.{◌<◌, ◌≤◌, length};
-ghost use Rattle.io.specs.Counts.{IsPrefixLen};
+ghost use Rattle.wire.specs.Counts.{IsPrefixLen};
 
-pub fn write_number(number: u32) {
-    let mut bytes = [0u8; 1];
-    bytes[0] = (number % 256) as u8;
-    wire::write(&bytes);
+use std::io::{self, Read, Write};
+
+pub fn write_number<W: Write>(output: &mut W, number: u32) -> io::Result<()> {
+    output.write_all(&[(number % 256) as u8])
 }
 
-pub fn read_bytes(n: u32, to: &mut [u8]) {
+pub fn read_bytes<R: Read>(input: &mut R, n: u32, to: &mut [u8]) -> io::Result<()> {
     let m = wire::bytes(n as usize, to);
-    wire::read(&mut to[..m]);
+    wire::read(input, &mut to[..m])?;
+    Ok(())
 }
 
-pub fn write_bytes(n: u32, from: &[u8]) {
+pub fn write_bytes<W: Write>(output: &mut W, n: u32, from: &[u8]) -> io::Result<()> {
     let m = wire::bytes(n as usize, from);
-    wire::write(&from[..m]);
+    output.write_all(&from[..m])
 }
 
 fn page_size(words: usize, page: &[u8]) -> usize
@@ -31,59 +32,62 @@ fn from_page(page: &[u8; 8192], to: &mut [u16])
     wire::u16s_at(page, 0, to);
 }
 
-fn send(page: &[u8], words: usize)
+fn send<W: Write>(output: &mut W, page: &[u8], words: usize) -> io::Result<()>
     requires { words ≤ 4096 }
 {
     let size = page_size(words, page);
-    wire::write(&page[..size]);
+    output.write_all(&page[..size])
 }
 
 // The words below m of page k, of 4096 words.
-fn read_page(to: &mut [u16], k: usize, m: usize)
+fn read_page<R: Read>(input: &mut R, to: &mut [u16], k: usize, m: usize) -> io::Result<()>
     requires { k < 16 }
 {
     let at = 4096 * k;
     if to.len() < m {
-        return;
+        return Ok(());
     }
     if m <= at {
-        return;
+        return Ok(());
     }
     let n = wire::least(m - at, 4096);
     let end = at + n;
     let mut page = [0u8; 8192];
     let size = page_size(n, &page);
-    wire::read(&mut page[..size]);
+    wire::read(input, &mut page[..size])?;
     from_page(&page, &mut to[at..end]);
+    Ok(())
 }
 
-fn write_page(from: &[u16], k: usize, m: usize)
+fn write_page<W: Write>(output: &mut W, from: &[u16], k: usize, m: usize) -> io::Result<()>
     requires { k < 16 }
 {
     let at = 4096 * k;
     if from.len() < m {
-        return;
+        return Ok(());
     }
     if m <= at {
-        return;
+        return Ok(());
     }
     let n = wire::least(m - at, 4096);
     let end = at + n;
     let mut page = [0u8; 8192];
     wire::put_u16s(&mut page, 0, &from[at..end]);
-    send(&page, n);
+    send(output, &page, n)
 }
 
-pub fn read_words(n: u32, to: &mut [u16]) {
+pub fn read_words<R: Read>(input: &mut R, n: u32, to: &mut [u16]) -> io::Result<()> {
     let m = wire::words(n as usize, to);
     for k in 0..16 {
-        read_page(to, k, m);
+        read_page(input, to, k, m)?;
     }
+    Ok(())
 }
 
-pub fn write_words(n: u32, from: &[u16]) {
+pub fn write_words<W: Write>(output: &mut W, n: u32, from: &[u16]) -> io::Result<()> {
     let m = wire::words(n as usize, from);
     for k in 0..16 {
-        write_page(from, k, m);
+        write_page(output, from, k, m)?;
     }
+    Ok(())
 }

@@ -2,12 +2,13 @@
 ghost use Rattle.std.specs.Prelude.{◌+◌, ◌≤◌};
 
 use crate::memory;
+use std::io::{self, Read, Write};
 
 // A step's 96 bytes, and the contexts that it lends.
-fn read_step() -> [u8; 96] {
+fn read_step<R: Read>(input: &mut R) -> io::Result<[u8; 96]> {
     let mut step = [0u8; 96];
-    wire::read(&mut step);
-    step
+    wire::read(input, &mut step)?;
+    Ok(step)
 }
 
 fn stride_at(step: &[u8; 96], at: usize) -> usize
@@ -50,17 +51,17 @@ fn corrected(step: &[u8; 96], context: &[u8], context_uv: &[u8], masks: &mut [u1
 }
 
 // Reads the contexts that a step lends, and makes its correction.
-fn correction(step: &[u8; 96], masks: &mut [u16]) -> u32 {
+fn correction<R: Read>(input: &mut R, step: &[u8; 96], masks: &mut [u16]) -> io::Result<u32> {
     let mut context = [0u8; 256];
     let n = wire::u16_at(step, 60) as u32;
-    memory::read_bytes(n, &mut context);
+    memory::read_bytes(input, n, &mut context)?;
     let mut context_uv = [0u8; 256];
     let n_uv = wire::u16_at(step, 62) as u32;
-    memory::read_bytes(n_uv, &mut context_uv);
+    memory::read_bytes(input, n_uv, &mut context_uv)?;
     let m = wire::words(wire::u32_at(step, 44) as usize, masks);
     let a = wire::bytes(n as usize, &context);
     let b = wire::bytes(n_uv as usize, &context_uv);
-    corrected(step, &context[..a], &context_uv[..b], &mut masks[..m])
+    Ok(corrected(step, &context[..a], &context_uv[..b], &mut masks[..m]))
 }
 
 fn pass_8(
@@ -153,7 +154,8 @@ fn filtered_8(
     )
 }
 
-fn step_8(
+fn step_8<R: Read>(
+    input: &mut R,
     e: &[u8; 64],
     i: &[u8; 64],
     levels: &mut [u8],
@@ -161,24 +163,26 @@ fn step_8(
     luma: &mut [u8],
     u: &mut [u8],
     v: &mut [u8],
-) -> u32 {
-    let step = read_step();
+) -> io::Result<u32> {
+    let step = read_step(input)?;
     let at = wire::u32_at(&step, 20);
     let value = wire::u32_at(&step, 24);
     match wire::u32_at(&step, 0) {
-        0 | 1 => return correction(&step, masks),
-        2 | 3 => return filtered_8(&step, e, i, levels, masks, luma, u, v),
+        0 | 1 => return correction(input, &step, masks),
+        2 | 3 => return Ok(filtered_8(&step, e, i, levels, masks, luma, u, v)),
         4 => put_byte(levels, at, value),
         5 => put_word(masks, at, value),
         6 => put_byte(luma, at, value),
         7 => put_byte(u, at, value),
         _ => put_byte(v, at, value),
     }
-    0
+    Ok(0)
 }
 
 // So many steps; each writes its number.
-pub fn run_8(
+pub fn run_8<R: Read, W: Write>(
+    input: &mut R,
+    output: &mut W,
     count: u32,
     e: &[u8; 64],
     i: &[u8; 64],
@@ -187,12 +191,11 @@ pub fn run_8(
     luma: &mut [u8],
     u: &mut [u8],
     v: &mut [u8],
-) {
-    let mut left = count;
-    while 0 < left {
-        memory::write_number(step_8(e, i, levels, masks, luma, u, v));
-        left -= 1;
+) -> io::Result<()> {
+    for _ in 0..count {
+        memory::write_number(output, step_8(input, e, i, levels, masks, luma, u, v)?)?;
     }
+    Ok(())
 }
 
 fn pass_16(
@@ -288,7 +291,8 @@ fn filtered_16(
     )
 }
 
-fn step_16(
+fn step_16<R: Read>(
+    input: &mut R,
     e: &[u8; 64],
     i: &[u8; 64],
     levels: &mut [u8],
@@ -296,24 +300,26 @@ fn step_16(
     luma: &mut [u16],
     u: &mut [u16],
     v: &mut [u16],
-) -> u32 {
-    let step = read_step();
+) -> io::Result<u32> {
+    let step = read_step(input)?;
     let at = wire::u32_at(&step, 20);
     let value = wire::u32_at(&step, 24);
     match wire::u32_at(&step, 0) {
-        0 | 1 => return correction(&step, masks),
-        2 | 3 => return filtered_16(&step, e, i, levels, masks, luma, u, v),
+        0 | 1 => return correction(input, &step, masks),
+        2 | 3 => return Ok(filtered_16(&step, e, i, levels, masks, luma, u, v)),
         4 => put_byte(levels, at, value),
         5 => put_word(masks, at, value),
         6 => put_word(luma, at, value),
         7 => put_word(u, at, value),
         _ => put_word(v, at, value),
     }
-    0
+    Ok(0)
 }
 
 // So many steps; each writes its number.
-pub fn run_16(
+pub fn run_16<R: Read, W: Write>(
+    input: &mut R,
+    output: &mut W,
     count: u32,
     e: &[u8; 64],
     i: &[u8; 64],
@@ -322,10 +328,9 @@ pub fn run_16(
     luma: &mut [u16],
     u: &mut [u16],
     v: &mut [u16],
-) {
-    let mut left = count;
-    while 0 < left {
-        memory::write_number(step_16(e, i, levels, masks, luma, u, v));
-        left -= 1;
+) -> io::Result<()> {
+    for _ in 0..count {
+        memory::write_number(output, step_16(input, e, i, levels, masks, luma, u, v)?)?;
     }
+    Ok(())
 }

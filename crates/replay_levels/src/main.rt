@@ -1,5 +1,7 @@
 // A program: reads headers, writes what `levels` answers. The records are those of oracle/FORMATS.md.
-use libc::{STDIN_FILENO, STDOUT_FILENO};
+#![tactic(auto)]
+
+use std::io::{self, Read, Write};
 
 fn answer(case: &[u8; 576], values: &mut [u8; 512]) -> u32 {
     let mut base = [0u8; 4];
@@ -26,31 +28,31 @@ fn answer(case: &[u8; 576], values: &mut [u8; 512]) -> u32 {
     )
 }
 
-fn write_answer(number: u32, values: &[u8; 512]) -> bool {
-    let first = [(number % 256) as u8; 1];
-    io::write_all(STDOUT_FILENO, &first);
-    io::write_all(STDOUT_FILENO, values);
-    let padding = [0u8; 7];
-    io::write_all(STDOUT_FILENO, &padding)
+fn write_answer<W: Write>(output: &mut W, number: u32, values: &[u8; 512]) -> io::Result<()> {
+    output.write_all(&[(number % 256) as u8])?;
+    output.write_all(values)?;
+    output.write_all(&[0u8; 7])
 }
 
-fn replayed() -> bool {
+fn replayed<R: Read, W: Write>(input: &mut R, output: &mut W) -> io::Result<bool> {
     let mut case = [0u8; 576];
-    if io::read_full(STDIN_FILENO, &mut case) < 576 {
-        return false;
+    if !wire::read(input, &mut case)? {
+        return Ok(false);
     }
     let mut values = [0u8; 512];
     wire::u8s_at(&case, 57, &mut values);
     let number = answer(&case, &mut values);
-    write_answer(number, &values)
+    write_answer(output, number, &values)?;
+    Ok(true)
 }
 
-fn main() {
-    let mut left: u64 = 0x1_0000_0000_0000;
-    while 0 < left {
-        if !replayed() {
-            return;
+fn main(rt: HostRuntime) -> io::Result<()> {
+    let mut input = rt.reader();
+    let mut output = io::writer(&rt);
+    for _ in 0..u64::MAX {
+        if !replayed(&mut input, &mut output)? {
+            break;
         }
-        left -= 1;
     }
+    Ok(())
 }

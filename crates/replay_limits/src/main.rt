@@ -1,37 +1,35 @@
 // A program: reads sharpnesses, writes what `limits` answers. The records are those of oracle/FORMATS.md.
-use libc::{STDIN_FILENO, STDOUT_FILENO};
+#![tactic(auto)]
 
-fn write_word(word: u64) {
+use std::io::{self, Read, Write};
+
+fn write_word<W: Write>(output: &mut W, word: u64) -> io::Result<()> {
     let mut bytes = [0u8; 8];
     wire::put_u64(&mut bytes, 0, word);
-    io::write_all(STDOUT_FILENO, &bytes);
+    output.write_all(&bytes)
 }
 
-fn replayed() -> bool {
+fn replayed<R: Read, W: Write>(input: &mut R, output: &mut W) -> io::Result<bool> {
     let mut case = [0u8; 4];
-    if io::read_full(STDIN_FILENO, &mut case) < 4 {
-        return false;
+    if !wire::read(input, &mut case)? {
+        return Ok(false);
     }
     let a = limits::limits(wire::u32_at(&case, 0));
-    let table = a.table;
-    let number = [(a.number % 256) as u8; 1];
-    io::write_all(STDOUT_FILENO, &number);
-    let e = table.e;
-    io::write_all(STDOUT_FILENO, &e);
-    let i = table.i;
-    io::write_all(STDOUT_FILENO, &i);
-    let sharp = table.sharp;
-    write_word(sharp[0]);
-    write_word(sharp[1]);
-    true
+    output.write_all(&[(a.number % 256) as u8])?;
+    output.write_all(&a.table.e)?;
+    output.write_all(&a.table.i)?;
+    write_word(output, a.table.sharp[0])?;
+    write_word(output, a.table.sharp[1])?;
+    Ok(true)
 }
 
-fn main() {
-    let mut left: u64 = 0x1_0000_0000_0000;
-    while 0 < left {
-        if !replayed() {
-            return;
+fn main(rt: HostRuntime) -> io::Result<()> {
+    let mut input = rt.reader();
+    let mut output = io::writer(&rt);
+    for _ in 0..u64::MAX {
+        if !replayed(&mut input, &mut output)? {
+            break;
         }
-        left -= 1;
     }
+    Ok(())
 }

@@ -25,5 +25,5 @@ set-at-most max (a ∷ l) (suc i) v hv (suc k) h = set-at-most max l i v hv k h
 pub capped-set : {max : ℕ} {l : List ℕ} (i v : ℕ) → v ≤ max → Capped max l → Capped max (set l i v)
 capped-set {max} {l} i v h c = record { at_most = λ k. set-at-most max l i v h k (c.at_most k) }
 
-pub piece-below : {l : List ℕ} (half n line_step sample-step q : ℕ) → 0 < half → Capped (2 * half - 1) l → PieceUnder (2 * half) n line_step sample-step q l
-piece-below half n line_step sample-step q p c = record { line = λ i _. record { under = λ k _. omega (arith, c.at_most (index (q + i * line_step) sample-step k)) } }
+pub piece-below : {l : List ℕ} (half n line_step sample_step q : ℕ) → 0 < half → Capped (2 * half - 1) l → PieceUnder (2 * half) n line_step sample_step q l
+piece-below half n line_step sample_step q p c = record { line = λ i _. record { under = λ k _. omega (arith, c.at_most (index (q + i * line_step) sample_step k)) } }

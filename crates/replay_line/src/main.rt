@@ -1,10 +1,12 @@
 // A program: reads lines of samples, writes them as `piece` filters them. The records are those of oracle/FORMATS.md. Each line stands four
 // times in a plane, along its rows or, where the level is odd, down its columns; sample k of the answer comes from line k % 4.
+#![tactic(auto)]
+
 ghost use Rattle.std.specs.Prelude.{◌≡◌, ◌+◌, ◌-◌, ◌*◌, ◌<◌, ◌≤◌};
 ghost use Rattle.replay_line.specs.Capped.{Capped};
 
-use libc::{STDIN_FILENO, STDOUT_FILENO};
 use standard::Bounds;
+use std::io::{self, Read, Write};
 
 // Sample n / 4 of line n % 4.
 fn place(n: usize, down: bool) -> usize
@@ -105,11 +107,9 @@ fn bounds(level: usize, sharpness: u32, scale: u32) -> Bounds
     ensures { (result.f ≡ scale) × (result.half ≡ 128 * scale) }
 {
     let table = limits::limits(sharpness).table;
-    let e = table.e;
-    let i = table.i;
     Bounds {
-        e: scaled(wire::u8_at(&e, level), scale),
-        i: scaled(wire::u8_at(&i, level), scale),
+        e: scaled(wire::u8_at(&table.e, level), scale),
+        i: scaled(wire::u8_at(&table.i, level), scale),
         h: scaled((level / 16) as u32, scale),
         f: scale,
         half: 128 * scale,
@@ -189,26 +189,24 @@ fn answer(case: &[u8; 32], out: &mut [u8; 32]) {
     answer_16(case, level, out);
 }
 
-fn written(out: &[u8; 32]) -> bool {
-    io::write_all(STDOUT_FILENO, out)
-}
-
-fn replayed() -> bool {
+fn replayed<R: Read, W: Write>(input: &mut R, output: &mut W) -> io::Result<bool> {
     let mut case = [0u8; 32];
-    if io::read_full(STDIN_FILENO, &mut case) < 32 {
-        return false;
+    if !wire::read(input, &mut case)? {
+        return Ok(false);
     }
     let mut out = [0u8; 32];
     answer(&case, &mut out);
-    written(&out)
+    output.write_all(&out)?;
+    Ok(true)
 }
 
-fn main() {
-    let mut left: u64 = 0x1_0000_0000_0000;
-    while 0 < left {
-        if !replayed() {
-            return;
+fn main(rt: HostRuntime) -> io::Result<()> {
+    let mut input = rt.reader();
+    let mut output = io::writer(&rt);
+    for _ in 0..u64::MAX {
+        if !replayed(&mut input, &mut output)? {
+            break;
         }
-        left -= 1;
     }
+    Ok(())
 }

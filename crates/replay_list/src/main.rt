@@ -1,65 +1,83 @@
 // A program: reads scripts, lists each in parts and once more whole, and says where the two differ. Each stands after the length of its
 // parts and its own length, in four bytes each. Of parts of 4,096 bytes and more it writes the listing too. `scripts/cases.py` makes the
 // scripts.
-use libc::{STDIN_FILENO, STDOUT_FILENO};
+#![tactic(auto)]
+
 use list_reading::listed;
+use std::io::{self, Read, Write};
 
 const WRITTEN: usize = 4096;
 
 // What a refused line left unread.
-fn read_rest(script: &mut [u8], read: usize, total: usize) {
-    if total <= script.len() {
-        if read < total {
-            io::read_full(STDIN_FILENO, &mut script[read..total]);
-        }
+fn read_rest<R: Read>(
+    input: &mut R,
+    script: &mut [u8],
+    read: usize,
+    total: usize,
+) -> io::Result<()> {
+    if read < total && total <= script.len() {
+        wire::read(input, &mut script[read..total])?;
     }
+    Ok(())
 }
 
-fn compare(script: &[u8], text: &[u8]) {
+fn compare<W: Write>(output: &mut W, script: &[u8], text: &[u8]) -> io::Result<()> {
     let mut out = [0u8; 393255];
     let n = list_call::list(script, &mut out);
     let m = wire::bytes(n, &out);
-    if !check::same(text, &out[..m]) {
-        io::write_all(STDOUT_FILENO, b"the listing of the whole script differs\n");
+    if text != &out[..m] {
+        output.write_all(b"the listing of the whole script differs\n")?;
     }
+    Ok(())
 }
 
 // A script that fills its memory is not there whole.
-fn compare_whole(script: &[u8], total: usize, text: &[u8]) {
+fn compare_whole<W: Write>(
+    output: &mut W,
+    script: &[u8],
+    total: usize,
+    text: &[u8],
+) -> io::Result<()> {
     if total < script.len() {
         let m = wire::bytes(total, script);
-        compare(&script[..m], text);
+        compare(output, &script[..m], text)?;
     }
+    Ok(())
 }
 
-fn list_in_parts(total: usize, most: usize) {
+fn list_in_parts<R: Read, W: Write>(
+    input: &mut R,
+    output: &mut W,
+    total: usize,
+    most: usize,
+) -> io::Result<()> {
     let mut script = [0u8; 131072];
     let mut text = [0u8; 393255];
-    let r = listed(total, most, &mut script, &mut text);
-    read_rest(&mut script, r.read, total);
-    let n = r.stored;
+    let r = listed(input, total, most, &mut script, &mut text);
+    read_rest(input, &mut script, r.read, total)?;
     if WRITTEN <= most {
-        io::write_all(STDOUT_FILENO, &text[..n]);
+        output.write_all(&text[..r.stored])?;
     }
-    compare_whole(&script, total, &text[..n]);
+    compare_whole(output, &script, total, &text[..r.stored])
 }
 
-fn replayed() -> bool {
+fn replayed<R: Read, W: Write>(input: &mut R, output: &mut W) -> io::Result<bool> {
     let mut head = [0u8; 8];
-    if io::read_full(STDIN_FILENO, &mut head) < 8 {
-        return false;
+    if !wire::read(input, &mut head)? {
+        return Ok(false);
     }
     let most = wire::u32_at(&head, 0) as usize;
-    list_in_parts(wire::u32_at(&head, 4) as usize, most);
-    true
+    list_in_parts(input, output, wire::u32_at(&head, 4) as usize, most)?;
+    Ok(true)
 }
 
-fn main() {
-    let mut left: u64 = 0x1_0000_0000_0000;
-    while 0 < left {
-        if !replayed() {
-            return;
+fn main(rt: HostRuntime) -> io::Result<()> {
+    let mut input = rt.reader();
+    let mut output = io::writer(&rt);
+    for _ in 0..u64::MAX {
+        if !replayed(&mut input, &mut output)? {
+            break;
         }
-        left -= 1;
     }
+    Ok(())
 }

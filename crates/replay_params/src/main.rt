@@ -1,6 +1,9 @@
 // A program: reads bytes, a place and parameters, writes what `params` answers and the bytes afterwards. The records are those of
 // oracle/FORMATS.md.
+#![tactic(auto)]
+
 use standard::Params;
+use std::io::{self, Read, Write};
 
 fn place(head: &[u8; 64]) -> usize {
     let low = wire::u32_at(head, 16) as usize;
@@ -43,48 +46,32 @@ fn given(head: &[u8; 64]) -> Params {
     }
 }
 
-fn write_head(number: u32, count: u32) {
-    let bytes = [(number % 256) as u8, (count % 256) as u8];
-    wire::write(&bytes);
+fn write_head<W: Write>(output: &mut W, number: u32, count: u32) -> io::Result<()> {
+    output.write_all(&[(number % 256) as u8, (count % 256) as u8])
 }
 
 fn unsigned(d: i8) -> u8 {
     ((deltas::biased(d) + 128) % 256) as u8
 }
 
-fn write_bits(p: Params) {
-    let level = p.level;
-    wire::write(&level);
-    let bits = [p.sharpness, p.delta_enabled, p.delta_update];
-    wire::write(&bits);
-    let update_ref = p.update_ref;
-    wire::write(&update_ref);
-    let update_mode = p.update_mode;
-    wire::write(&update_mode);
+fn write_bits<W: Write>(output: &mut W, p: Params) -> io::Result<()> {
+    output.write_all(&p.level)?;
+    output.write_all(&[p.sharpness, p.delta_enabled, p.delta_update])?;
+    output.write_all(&p.update_ref)?;
+    output.write_all(&p.update_mode)
 }
 
-fn write_refs(d: [i8; 8]) {
-    let bytes = [
-        unsigned(d[0]),
-        unsigned(d[1]),
-        unsigned(d[2]),
-        unsigned(d[3]),
-        unsigned(d[4]),
-        unsigned(d[5]),
-        unsigned(d[6]),
-        unsigned(d[7]),
-    ];
-    wire::write(&bytes);
+fn write_refs<W: Write>(output: &mut W, d: [i8; 8]) -> io::Result<()> {
+    output.write_all(&d.map(unsigned))
 }
 
 // The mode deltas, and padding.
-fn write_modes(d: [i8; 2]) {
-    let bytes = [unsigned(d[0]), unsigned(d[1]), 0u8, 0u8, 0u8];
-    wire::write(&bytes);
+fn write_modes<W: Write>(output: &mut W, d: [i8; 2]) -> io::Result<()> {
+    output.write_all(&[unsigned(d[0]), unsigned(d[1]), 0, 0, 0])
 }
 
 // Lends as many bytes as the record says.
-fn read(head: &[u8; 64], bytes: &[u8]) {
+fn read<W: Write>(output: &mut W, head: &[u8; 64], bytes: &[u8]) -> io::Result<()> {
     let n = wire::bytes(wire::u8_at(head, 1) as usize, bytes);
     let a = params::read(
         &bytes[..n],
@@ -95,16 +82,13 @@ fn read(head: &[u8; 64], bytes: &[u8]) {
         refs_before(head),
         modes_before(head),
     );
-    let p = a.params;
-    write_head(a.number, a.count);
-    write_bits(p);
-    let refs = p.ref_delta;
-    write_refs(refs);
-    let modes = p.mode_delta;
-    write_modes(modes);
+    write_head(output, a.number, a.count)?;
+    write_bits(output, a.params)?;
+    write_refs(output, a.params.ref_delta)?;
+    write_modes(output, a.params.mode_delta)
 }
 
-fn write(head: &[u8; 64], bytes: &mut [u8]) {
+fn write<W: Write>(output: &mut W, head: &[u8; 64], bytes: &mut [u8]) -> io::Result<()> {
     let n = wire::bytes(wire::u8_at(head, 1) as usize, bytes);
     let w = params::write(
         &mut bytes[..n],
@@ -116,36 +100,37 @@ fn write(head: &[u8; 64], bytes: &mut [u8]) {
         modes_before(head),
         given(head),
     );
-    write_head(w.number, w.count);
-    let nothing = [0u8; 30];
-    wire::write(&nothing);
+    write_head(output, w.number, w.count)?;
+    output.write_all(&[0u8; 30])
 }
 
-fn answer(head: &[u8; 64], bytes: &mut [u8]) {
+fn answer<W: Write>(output: &mut W, head: &[u8; 64], bytes: &mut [u8]) -> io::Result<()> {
     if head[0] == 0 {
-        read(head, bytes);
-        return;
+        read(output, head, bytes)
+    } else {
+        write(output, head, bytes)
     }
-    write(head, bytes);
 }
 
-fn replayed() -> bool {
+fn replayed<R: Read, W: Write>(input: &mut R, output: &mut W) -> io::Result<bool> {
     let mut head = [0u8; 64];
-    if !wire::read(&mut head) {
-        return false;
+    if !wire::read(input, &mut head)? {
+        return Ok(false);
     }
     let mut bytes = [0u8; 64];
-    wire::read(&mut bytes);
-    answer(&head, &mut bytes);
-    wire::write(&bytes)
+    wire::read(input, &mut bytes)?;
+    answer(output, &head, &mut bytes)?;
+    output.write_all(&bytes)?;
+    Ok(true)
 }
 
-fn main() {
-    let mut left: u64 = 0x1_0000_0000_0000;
-    while 0 < left {
-        if !replayed() {
-            return;
+fn main(rt: HostRuntime) -> io::Result<()> {
+    let mut input = rt.reader();
+    let mut output = io::writer(&rt);
+    for _ in 0..u64::MAX {
+        if !replayed(&mut input, &mut output)? {
+            break;
         }
-        left -= 1;
     }
+    Ok(())
 }

@@ -1,27 +1,31 @@
 // A program: reads blocks with lent memory, writes what `record` answers and the memory afterwards. The records are those of
 // oracle/FORMATS.md.
-ghost use Rattle.std.specs.Prelude.{◌≡◌, length};
+#![tactic(auto)]
 
-fn read_masks() -> [u16; 2560]
-    ensures { 2560 ≡ length result }
+ghost use Rattle.std.specs.Prelude.{◌≡◌, length, IfOk};
+
+use std::io::{self, Read, Write};
+
+fn read_masks<R: Read>(input: &mut R) -> io::Result<[u16; 2560]>
+    ensures { IfOk result (λ masks. 2560 ≡ length masks) }
 {
     let mut bytes = [0u8; 5120];
-    wire::read(&mut bytes);
+    wire::read(input, &mut bytes)?;
     let mut masks = [0u16; 2560];
     wire::u16s_at(&bytes, 0, &mut masks);
-    masks
+    Ok(masks)
 }
 
-fn write_masks(masks: &[u16; 2560]) {
+fn write_masks<W: Write>(output: &mut W, masks: &[u16; 2560]) -> io::Result<()> {
     let mut bytes = [0u8; 5120];
     wire::put_u16s(&mut bytes, 0, masks);
-    wire::write(&bytes);
+    output.write_all(&bytes)
 }
 
-fn write_number(number: u32) {
+fn write_number<W: Write>(output: &mut W, number: u32) -> io::Result<()> {
     let mut bytes = [0u8; 16];
     bytes[0] = (number % 256) as u8;
-    wire::write(&bytes);
+    output.write_all(&bytes)
 }
 
 fn intra(
@@ -133,24 +137,24 @@ fn recorded(
     )
 }
 
-fn replayed() -> bool {
+fn replayed<R: Read, W: Write>(input: &mut R, output: &mut W) -> io::Result<bool> {
     let mut head = [0u8; 64];
-    if !wire::read(&mut head) {
-        return false;
+    if !wire::read(input, &mut head)? {
+        return Ok(false);
     }
     let mut values = [0u8; 64];
-    wire::read(&mut values);
+    wire::read(input, &mut values)?;
     let mut above = [0u8; 32];
-    wire::read(&mut above);
+    wire::read(input, &mut above)?;
     let mut left = [0u8; 32];
-    wire::read(&mut left);
+    wire::read(input, &mut left)?;
     let mut above_uv = [0u8; 32];
-    wire::read(&mut above_uv);
+    wire::read(input, &mut above_uv)?;
     let mut left_uv = [0u8; 32];
-    wire::read(&mut left_uv);
-    let mut masks = read_masks();
+    wire::read(input, &mut left_uv)?;
+    let mut masks = read_masks(input)?;
     let mut levels = [0u8; 8192];
-    wire::read(&mut levels);
+    wire::read(input, &mut levels)?;
     let number = recorded(
         &head,
         &values,
@@ -161,21 +165,23 @@ fn replayed() -> bool {
         &mut above_uv,
         &mut left_uv,
     );
-    write_number(number);
-    wire::write(&above);
-    wire::write(&left);
-    wire::write(&above_uv);
-    wire::write(&left_uv);
-    write_masks(&masks);
-    wire::write(&levels)
+    write_number(output, number)?;
+    output.write_all(&above)?;
+    output.write_all(&left)?;
+    output.write_all(&above_uv)?;
+    output.write_all(&left_uv)?;
+    write_masks(output, &masks)?;
+    output.write_all(&levels)?;
+    Ok(true)
 }
 
-fn main() {
-    let mut left: u64 = 0x1_0000_0000_0000;
-    while 0 < left {
-        if !replayed() {
-            return;
+fn main(rt: HostRuntime) -> io::Result<()> {
+    let mut input = rt.reader();
+    let mut output = io::writer(&rt);
+    for _ in 0..u64::MAX {
+        if !replayed(&mut input, &mut output)? {
+            break;
         }
-        left -= 1;
     }
+    Ok(())
 }

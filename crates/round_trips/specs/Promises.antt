@@ -5,7 +5,7 @@
 --   DeltaFault                what is wrong with one update bit u, where delta_update is m, and its delta, which was b before
 --   Unwritable g p            what number 24 refuses, one by one
 --   ones us n                 how many of the first n update bits are 1
---   bits_of g p                how many bits the steps of 5.9.11 take
+--   bits_of g p               how many bits the steps of 5.9.11 take
 --   ReadPromised              of an answer of `read`
 --   WritePromised             of an answer of `write`: its number, its count, and the bytes before and after
 --   Promises                  of all

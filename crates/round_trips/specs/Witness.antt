@@ -1,8 +1,8 @@
 -- Two headers of which the promises speak.
---   before             no frame before: the standard's defaults
---   header, place      the first bytes of the second frame of a file that aomenc 3.6.0 wrote, 176 by 144 samples, as an OBU; its parameters begin at bit 96
+--   before              no frame before: the standard's defaults
+--   header, place       the first bytes of the second frame of a file that aomenc 3.6.0 wrote, 176 by 144 samples, as an OBU; its parameters begin at bit 96
 --   header_params       what ffmpeg prints of them
---   changed            bytes that hold other parameters from bit 3 on: one luma level is 0, and deltas of LAST, ALTREF and of mode 1 are sent
+--   changed             bytes that hold other parameters from bit 3 on: one luma level is 0, and deltas of LAST, ALTREF and of mode 1 are sent
 --   changed_params      these
 use Rattle.std.specs.Prelude.{false, List, [], ◌∷◌, ℕ, pos, negsuc, replicate}
 use Rattle.standard.specs.Header.{Given, given, default_refs, default_modes}

@@ -1,4 +1,6 @@
 // Numbers 8 and 9: level bytes and samples, or-ed together line by line and compared once.
+#![tactic(auto)]
+
 ghost use Rattle.std.specs.Prelude.{◌≡◌, ◌+◌, ◌-◌, ◌*◌, ◌/◌, ◌%◌, ◌^◌, ◌<◌, ◌≤◌, min, ltb, length};
 ghost use Rattle.bits.specs.Word.{or_below};
 ghost use Rattle.plane.specs.Line.{pass_of, pass_no};

@@ -17,7 +17,6 @@ use Rattle.frames.specs.Calls.{Frame}
 use Rattle.standard_planes.specs.Piece.{sample_at, Standard}
 use Rattle.standard_planes.specs.Frame.{frame_level, Filters, Steps}
 use Rattle.standard_planes.proofs.Lines.{dec-within}
-use Rattle.standard_planes.proofs.Pieces.{no-level}
 
 -- ---- the standard's lines leave one list
 

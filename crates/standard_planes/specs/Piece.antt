@@ -3,8 +3,8 @@
 --   piece_level              the level used at a piece of plane n
 --   sample_at d S p i k      the index of place k of line i of the piece at p
 --   piece_line d S p i s     line i of it, in the list s
---   There d S n p size      n places a side of its four lines are in a list of that size
---   Standard                each of its four lines is filtered by 7.14.6.1, and no other sample changes
+--   There d S n p size       n places a side of its four lines are in a list of that size
+--   Standard                 each of its four lines is filtered by 7.14.6.1, and no other sample changes
 use Rattle.std.specs.Prelude.{List, ◌≡◌, ℕ, ◌+◌, ◌-◌, ◌*◌, ◌≤◌, ◌<◌, length, get_or}
 use Rattle.plane.specs.Line.{Pass, Piece, ix, Room}
 use Rattle.standard.specs.Line.{filtered}

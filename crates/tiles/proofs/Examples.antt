@@ -2,7 +2,6 @@
 use mathlib.Core.Bool.{Bool, true, false, cond, false≢true}
 use mathlib.Core.List.{[], ◌∷◌, Memᴰ}
 use mathlib.Core.Logic.{inl, inr, by_cases}
-use mathlib.Core.Option.{some}
 use mathlib.Core.Path.{◌≡◌, refl, sym, ap, ◌∙◌, subst}
 use Prim.Native.Nat.{ℕ, ◌+◌, ◌-◌, ◌%◌, ◌<◌}
 use native.Mathlib.Decide.{dec_lt}
@@ -19,7 +18,7 @@ use Rattle.edges.specs.Edges.{units_of, luma_grid, chroma_grid, edge_bit}
 use Rattle.mask_edges.proofs.BlockPasses.{chroma-low}
 use Rattle.mask_edges.proofs.CellTables.{luma-low}
 use Rattle.block.specs.Block.{bw4, bh4, cbw4, cbh4, Lent, at_block}
-use Rattle.correct.specs.Start.{across, first}
+use Rattle.correct.specs.Start.{across}
 use Rattle.agree.specs.Legal.{Legal, Shows}
 use Rattle.agree.proofs.Theorems as agree
 use Rattle.covering.specs.Front.{Tile, Tiled}

@@ -24,6 +24,7 @@ use Rattle.tiles.specs.Tiles.{turned, In, TilesApart, AllApart, TilesRecorded, d
 
 -- what holds of all parts holds of a block's
 part_at : (G : Grid) (d : Pass) (Q : Part → Type 0) (l : List SeenBlock) → All Q (parts_in G d l) → (b : SeenBlock) → Memᴰ b l → Q (part_in G d b)
+part_at G d Q [] a b m = elim m [ ]
 part_at G d Q (x ∷ l) a b (Memᴰ.head e) = subst (λ (y : SeenBlock). Q (part_in G d y)) (sym e) a.0
 part_at G d Q (x ∷ l) a b (Memᴰ.tail m) = part_at G d Q l a.1 b m
 

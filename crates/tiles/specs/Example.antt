@@ -1,11 +1,11 @@
 -- A frame that meets the hypotheses, in luma and in chroma: 80 by 8 samples in 4:2:0, superblocks of 64, two tiles of one intra block of 64 by 64 each.
---   decoded            the frame in the standard's words: transforms of 8x8 in the first tile, in chroma of 4x4, and the largest in the second
---   call x t u         the call that records the block at the luma unit x, of transforms t, and u in chroma
---   fresh m            the memory m with the contexts of a tile's start
---   clear              the memory before the first tile: masks and levels of 0
+--   decoded             the frame in the standard's words: transforms of 8x8 in the first tile, in chroma of 4x4, and the largest in the second
+--   call x t u          the call that records the block at the luma unit x, of transforms t, and u in chroma
+--   fresh m             the memory m with the contexts of a tile's start
+--   clear               the memory before the first tile: masks and levels of 0
 --   fix_of m            the correction of the second tile's start, with the left contexts of m
 --   tiles_of a b h      two tiles side by side, of h units down: from 0 to a, and from a to b
---   Example            the calls are accepted, one after the other, and leave such masks; between the tiles the edge has the class of the lesser transform
+--   Example             the calls are accepted, one after the other, and leave such masks; between the tiles the edge has the class of the lesser transform
 use Rattle.std.specs.Prelude.{true, false, cond, List, [], ◌∷◌, ◌≡◌, ℕ, eqb, ltb, replicate}
 use Rattle.std.proofs.Math.Option.{some}
 use Rattle.standard.specs.Edge.{Frame}

@@ -1,5 +1,5 @@
 // The calls that filter, each with its number said.
-use crate::say::{number, text};
+use std::io;
 
 fn columns(
     row: u32,
@@ -10,10 +10,8 @@ fn columns(
     masks: &[u16; 640],
 ) -> u32 {
     let table = limits::limits(0).table;
-    let e = table.e;
-    let i = table.i;
     apply::columns_8(
-        luma, 128, u, v, 64, levels, 32, masks, &e, &i, 128, 128, 420, 64, 24, 20, row,
+        luma, 128, u, v, 64, levels, 32, masks, &table.e, &table.i, 128, 128, 420, 64, 24, 20, row,
     )
 }
 
@@ -26,40 +24,36 @@ fn rows(
     masks: &[u16; 640],
 ) -> u32 {
     let table = limits::limits(0).table;
-    let e = table.e;
-    let i = table.i;
     apply::rows_8(
-        luma, 128, u, v, 64, levels, 32, masks, &e, &i, 128, 128, 420, 64, 24, 20, row,
+        luma, 128, u, v, 64, levels, 32, masks, &table.e, &table.i, 128, 128, 420, 64, 24, 20, row,
     )
 }
 
-fn answered(row: u32, answer: u32) {
-    number(row as usize);
-    text(b": ");
-    number(answer as usize);
-    text(b"; ");
+fn answered(rt: &impl Print, row: u32, number: u32) -> io::Result<()> {
+    print!(rt; "{row}: {number}; ")
 }
 
 // Columns of superblock rows 0 and 1 are calls 0 and 1, rows are calls 2 and 3.
 pub fn call(
+    rt: &impl Print,
     which: u32,
     luma: &mut [u8; 16384],
     u: &mut [u8; 4096],
     v: &mut [u8; 4096],
     levels: &[u8; 4096],
     masks: &[u16; 640],
-) {
+) -> io::Result<()> {
     let row = which % 2;
     if which < 2 {
-        text(b"columns ");
-        answered(row, columns(row, luma, u, v, levels, masks));
-        return;
+        print!(rt; "columns ")?;
+        return answered(rt, row, columns(row, luma, u, v, levels, masks));
     }
-    text(b"rows ");
-    answered(row, rows(row, luma, u, v, levels, masks));
+    print!(rt; "rows ")?;
+    answered(rt, row, rows(row, luma, u, v, levels, masks))
 }
 
 pub fn four(
+    rt: &impl Print,
     a: u32,
     b: u32,
     c: u32,
@@ -69,9 +63,9 @@ pub fn four(
     v: &mut [u8; 4096],
     levels: &[u8; 4096],
     masks: &[u16; 640],
-) {
-    call(a, luma, u, v, levels, masks);
-    call(b, luma, u, v, levels, masks);
-    call(c, luma, u, v, levels, masks);
-    call(d, luma, u, v, levels, masks);
+) -> io::Result<()> {
+    call(rt, a, luma, u, v, levels, masks)?;
+    call(rt, b, luma, u, v, levels, masks)?;
+    call(rt, c, luma, u, v, levels, masks)?;
+    call(rt, d, luma, u, v, levels, masks)
 }

@@ -1,7 +1,7 @@
 // Edges counted in the masks.
 ghost use Rattle.std.specs.Prelude.{◌<◌};
 
-use crate::say::{number, text};
+use std::io;
 use std::num::wrapping_add_usize;
 
 // Where the words of a unit's row edges start.
@@ -44,24 +44,21 @@ fn edges(masks: &[u16; 640], at: usize, step: usize, units: usize) -> usize {
     n
 }
 
-pub fn say_luma(masks: &[u16; 640], at: usize, units: usize)
+pub fn say_luma(rt: &impl Print, masks: &[u16; 640], at: usize, units: usize) -> io::Result<()>
     requires { at < 640 }
 {
-    number(edges(masks, at, 6, units));
-    text(b" ");
-    number(edges(masks, at + 2, 6, units));
-    text(b" ");
-    number(edges(masks, at + 4, 6, units));
-    text(b"\n");
+    let zero = edges(masks, at, 6, units);
+    let one = edges(masks, at + 2, 6, units);
+    let two = edges(masks, at + 4, 6, units);
+    println!(rt; "{zero} {one} {two}")
 }
 
-pub fn say_chroma(masks: &[u16; 640], at: usize, units: usize)
+pub fn say_chroma(rt: &impl Print, masks: &[u16; 640], at: usize, units: usize) -> io::Result<()>
     requires { at < 640 }
 {
-    number(edges(masks, at, 4, units));
-    text(b" ");
-    number(edges(masks, at + 2, 4, units));
-    text(b"\n");
+    let zero = edges(masks, at, 4, units);
+    let one = edges(masks, at + 2, 4, units);
+    println!(rt; "{zero} {one}")
 }
 
 fn any(masks: &[u16; 640], at: usize) -> u16

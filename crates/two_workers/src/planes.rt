@@ -1,7 +1,7 @@
 // Planes compared.
 ghost use Rattle.std.specs.Prelude.{◌<◌};
 
-use crate::say::{number, text};
+use std::io;
 use std::num::wrapping_add_usize;
 
 // 0 outside.
@@ -42,44 +42,46 @@ fn checksum(s: &[u8]) -> usize {
     sum
 }
 
-fn three(luma: usize, u: usize, v: usize) {
-    number(luma);
-    text(b" ");
-    number(u);
-    text(b" ");
-    number(v);
+fn three(rt: &impl Print, luma: usize, u: usize, v: usize) -> io::Result<()> {
+    print!(rt; "{luma} {u} {v}")
 }
 
 pub fn say_differing(
+    rt: &impl Print,
     luma: &[u8; 16384],
     u: &[u8; 4096],
     v: &[u8; 4096],
     luma2: &[u8; 16384],
     u2: &[u8; 4096],
     v2: &[u8; 4096],
-) {
+) -> io::Result<()> {
     three(
+        rt,
         differing(luma, luma2, 0, 16384),
         differing(u, u2, 0, 4096),
         differing(v, v2, 0, 4096),
-    );
+    )
 }
 
-pub fn say_checksums(luma: &[u8; 16384], u: &[u8; 4096], v: &[u8; 4096]) {
-    three(checksum(luma), checksum(u), checksum(v));
+pub fn say_checksums(
+    rt: &impl Print,
+    luma: &[u8; 16384],
+    u: &[u8; 4096],
+    v: &[u8; 4096],
+) -> io::Result<()> {
+    three(rt, checksum(luma), checksum(u), checksum(v))
 }
 
 // Where `a` first differs from `b`, and both samples.
-pub fn say_first(a: &[u8; 16384], b: &[u8; 16384]) {
+pub fn say_first(rt: &impl Print, a: &[u8; 16384], b: &[u8; 16384]) -> io::Result<()> {
     let k = first(a, b);
-    text(b"line ");
-    number(k / 128);
-    text(b" column ");
-    number(k % 128);
-    text(b": ");
-    number(at(a, k) as usize);
-    text(b" against ");
-    number(at(b, k) as usize);
+    print!(rt;
+        "line {} column {}: {} against {}",
+        k / 128,
+        k % 128,
+        at(a, k),
+        at(b, k)
+    )
 }
 
 fn in_line(a: &[u8; 16384], b: &[u8; 16384], line: usize) -> usize
@@ -99,33 +101,33 @@ fn wrong(a: &[u8; 16384], b: &[u8; 16384], n: usize) -> bool {
     0 < in_line(a, b, n - 1)
 }
 
-fn say_ends(a: &[u8; 16384], b: &[u8; 16384], line: usize)
+fn say_ends(rt: &impl Print, a: &[u8; 16384], b: &[u8; 16384], line: usize) -> io::Result<()>
     requires { line < 128 }
 {
     if !wrong(a, b, line + 1) {
-        return;
+        return Ok(());
     }
     if !wrong(a, b, line) {
-        text(b" ");
-        number(line);
+        print!(rt; " {line}")?;
     }
     if !wrong(a, b, line + 2) {
-        text(b"-");
-        number(line);
+        print!(rt; "-{line}")?;
     }
+    Ok(())
 }
 
 // The lines with samples that differ.
-pub fn say_lines(a: &[u8; 16384], b: &[u8; 16384]) {
+pub fn say_lines(rt: &impl Print, a: &[u8; 16384], b: &[u8; 16384]) -> io::Result<()> {
     for line in 0..128 {
-        say_ends(a, b, line);
+        say_ends(rt, a, b, line)?;
     }
+    Ok(())
 }
 
 // Lines 57 to 70 of column 0.
-pub fn say_column(s: &[u8; 16384]) {
+pub fn say_column(rt: &impl Print, s: &[u8; 16384]) -> io::Result<()> {
     for line in 57..71 {
-        text(b" ");
-        number(at(s, line * 128) as usize);
+        print!(rt; " {}", at(s, line * 128))?;
     }
+    Ok(())
 }

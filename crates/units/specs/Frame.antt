@@ -1,12 +1,12 @@
 -- The frame. Sides are in samples, w4 and h4 and places in luma units.
 --   frame_ok width height   1 to 16,384 samples each way
---   stored side ss         a side of a plane as it is stored: the frame's rounded up to 128 luma samples, shifted by ss
---   records n              the 128x128 records along n units
+--   stored side ss          a side of a plane as it is stored: the frame's rounded up to 128 luma samples, shifted by ss
+--   records n               the 128x128 records along n units
 --   frame_records w4 h4     those of a frame
 --   record_of w4 x y        the record of a unit, in raster order
 --   superblock_ok size      64 or 128
 --   superblock_units size   the units of its side
---   superblocks n sb4      the superblocks along n units
+--   superblocks n sb4       the superblocks along n units
 use Rattle.std.specs.Prelude.{Bool, ◌&&◌, ◌||◌, ℕ, ◌+◌, ◌-◌, ◌*◌, ◌/◌, ◌^◌, eqb, leb}
 
 abbrev pub frame_ok : ℕ → ℕ → Bool

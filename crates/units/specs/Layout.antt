@@ -1,5 +1,5 @@
 -- Layouts, by their numbers 400, 420, 422 and 444.
---   Layout       one of the four, and layout_ok as a test
+--   Layout        one of the four, and layout_ok as a test
 --   has_chroma    not 4:0:0
 --   ss_hor        0 for 4:4:4, else 1
 --   ss_ver        1 for 4:2:0, else 0

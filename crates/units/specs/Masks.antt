@@ -1,15 +1,15 @@
 -- The geometry of masks: records of 640 words in raster order, and the lines of units that superblock row k has there.
---   luma_word, chroma_word             the place of a word in its record: pass 0 is columns, 1 rows, and `unit` is the edge's place across the pass there
+--   luma_word, chroma_word            the place of a word in its record: pass 0 is columns, 1 rows, and `unit` is the edge's place across the pass there
 --   word_of luma d unit class half    the same in luma and in chroma
 --   unit_words luma                   the words of a unit: two halves for each class
 --   pass_start luma d                 those before the first unit of a pass
 --   in_record side n rec              the units of record `rec` of a row, `side` a record, of a plane that has n
 --   record_row sb4 k                  the record row of superblock row k; sb4 is the side of a superblock in luma units
---   first_line, first_half             its first line and its first half there
+--   first_line, first_half            its first line and its first half there
 --   row_units ss h4 sb4 k             its lines in the frame
 --   half_units ss                     the units that a half holds, ss being that of the direction along the pass
 --   two_halves lo hi h                the joined word of two halves that hold h units each
---   luma_bit, chroma_bit               the bit of an edge, as one number: bit e % 16 of the record's word e / 16; `place` is the one along the pass
+--   luma_bit, chroma_bit              the bit of an edge, as one number: bit e % 16 of the record's word e / 16; `place` is the one along the pass
 use Rattle.std.specs.Prelude.{Bool, cond, ℕ, ◌+◌, ◌-◌, ◌*◌, ◌/◌, ◌%◌, ◌^◌, min}
 use Rattle.std.specs.Int.Bits.{bit_or}
 use Rattle.plane.specs.Line.{Pass, pass_no}

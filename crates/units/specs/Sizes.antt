@@ -1,13 +1,13 @@
 -- The class of a transform's side, and the rules behind the standard's sizes. Sides are in units.
---   log2 n                    the greatest k with 2 ^ k ≤ n, for n from 1 to 63
---   luma_class n               log2, at most 2
---   chroma_class n             1 if above one unit
---   Side n most               a power of two, from 1 to most
---   Ratio w h                 neither is more than four times the other
+--   log2 n                      the greatest k with 2 ^ k ≤ n, for n from 1 to 63
+--   luma_class n                log2, at most 2
+--   chroma_class n              1 if above one unit
+--   Side n most                 a power of two, from 1 to most
+--   Ratio w h                   neither is more than four times the other
 --   block_order, tx_order       the sizes (w, h) in the order of their codes
---   BlockRule b               of the block code b: its sides, its place in the order, its largest transform
---   SplitRule t               the transform that t splits into
---   TxRule t                  of the transform code t: its sides, its place in the order, its split
+--   BlockRule b                 of the block code b: its sides, its place in the order, its largest transform
+--   SplitRule t                 the transform that t splits into
+--   TxRule t                    of the transform code t: its sides, its place in the order, its split
 use Rattle.std.specs.Prelude.{cond, ◌≡◌, ℕ, ◌*◌, ◌/◌, ◌^◌, ◌<◌, ◌≤◌, min, ltb, get_or}
 use mathlib.Core.List.{List, [], ◌∷◌, ◌++◌, flat_map}
 use Rattle.standard.specs.Sizes.{Num_4x4_Blocks_Wide, Num_4x4_Blocks_High, Tx_Wide, Tx_High, Split_Tx_Size, Max_Tx_Size_Rect}

@@ -1,5 +1,7 @@
 // Luma units, chroma units and samples, counted apart; layouts, the frame, lent memory, the geometry of masks, block and transform sizes,
 // the numbers answered. Units are converted only here. ss is ss_hor or ss_ver.
+#![tactic(auto)]
+
 pub mod frame;
 pub mod layout;
 pub mod masks;
@@ -11,15 +13,15 @@ ghost use Rattle.std.specs.Prelude.{◌≡◌, ◌-◌, ◌*◌, ◌<◌, ◌≤
 ghost use Rattle.units.specs.Units.{units_of, chroma_unit, chroma_units};
 
 // A place or a count in units of 4 by 4 luma samples.
-#[derive(Drop)]
+#[derive(Clone, Copy)]
 pub struct LumaUnit(pub usize);
 
 // A place or a count in units of 4 by 4 chroma samples.
-#[derive(Drop)]
+#[derive(Clone, Copy)]
 pub struct ChromaUnit(pub usize);
 
 // A place or a count in samples of a plane.
-#[derive(Drop)]
+#[derive(Clone, Copy)]
 pub struct Sample(pub usize);
 
 // w4 of a frame's width, h4 of its height.

@@ -1,4 +1,6 @@
 // Public: the version of the archive, 10,000 * major + 100 * minor + patch.
+#![tactic(auto)]
+
 ghost use Rattle.std.specs.Prelude.{◌≡◌};
 
 const MAJOR: u32 = 0;

@@ -1,9 +1,11 @@
-// The level bytes and a place in them, held by one struct: `WithOffset` of the Rust; the level at an edge. A function that takes or makes
-// one is proved by a walk of its MIR; those on a slice and numbers do the work.
+// The level bytes and a place in them, held by one struct: `WithOffset` of the Rust; the level at an edge. The functions on a slice and
+// numbers do the work.
+#![tactic(auto)]
+
 ghost use Rattle.std.specs.Prelude.{◌≡◌, ◌<◌, ◌≤◌, length};
 ghost use Rattle.view.specs.Level.{level_used, current_at, earlier_at};
 
-#[derive(Drop)]
+#[derive(Clone, Copy)]
 pub struct LevelView<'a> {
     pub data: &'a [u8],
     pub offset: usize,
@@ -56,7 +58,7 @@ pub fn earlier<'a>(v: LevelView<'a>, back: usize) -> u8
     earlier_at(v.data, v.offset, back)
 }
 
-// Plain parameters: whoever calls this needs no walk.
+// Plain parameters, for whoever has no view.
 pub fn filter_level(levels: &[u8], at: usize, back: usize) -> u8
     requires { (at < length levels.now) × (back ≤ at) }
     ensures { result ≡ level_used (current_at levels.now at) (earlier_at levels.now at back) }

@@ -1,14 +1,14 @@
 -- The walk over the mask bits of one line of units (01, "One line of samples").
 --   thresholds depth e i lvl     what 7.14.6.2 and 7.14.6.3 compare with, from the limit table's e and i
 --   highest m₁ m₂ n              the highest class set at place n
---   luma_len c, chroma_len c       the width of a class
---   len_of luma c                 that of a luma plane or of a chroma plane
---   width_of plane c              that of a plane by its number
---   len_in classes c              that of a plane with so many classes: luma has 3, chroma 2
---   set_in u                      the set places of a line of units
---   len_at, index_at u n           the width and the index of q0 at place n
---   level_at levels u n           the level there
---   visit, visit_at               what is done at a set place, by its width, level and index, and by the place
+--   luma_len c, chroma_len c     the width of a class
+--   len_of luma c                that of a luma plane or of a chroma plane
+--   width_of plane c             that of a plane by its number
+--   len_in classes c             that of a plane with so many classes: luma has 3, chroma 2
+--   set_in u                     the set places of a line of units
+--   len_at, index_at u n         the width and the index of q0 at place n
+--   level_at levels u n          the level there
+--   visit, visit_at              what is done at a set place, by its width, level and index, and by the place
 --   walked                       what the walk does
 use Rattle.std.specs.Prelude.{ℕ, zero, suc, ◌+◌, ◌-◌, ◌*◌, ◌/◌, ◌^◌, Bool, cond, List, ◌==◌, bit_or, nat_lt, slice_index}
 use Rattle.bits.specs.Bit.{has_bit}

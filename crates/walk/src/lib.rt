@@ -1,6 +1,8 @@
 // The walk over the mask bits of one line of units: `loop_filter_sb128_rust` of the Rust. Both passes are this code with other steps:
 // by columns line_step is the stride and sample_step 1, along is the levels' stride in bytes and back 4; by rows line_step is 1 and sample_step the stride, along 4 and
 // back the levels' stride.
+#![tactic(auto)]
+
 ghost use Rattle.std.specs.Prelude.{◌≡◌, ℕ, ◌+◌, ◌-◌, ◌*◌, ◌^◌, ◌<◌, ◌≤◌, length};
 ghost use Rattle.line.specs.Width.{Width, reads};
 ghost use Rattle.piece.specs.Samples.{PieceUnder};
@@ -12,7 +14,7 @@ use standard::Bounds;
 
 // At place n, q0 of the first of the four lines is at index q + n * (4 * line_step), the lines line_step apart and a line's samples sample_step; the unit's
 // level byte is at at + n * along, and that of the unit before the edge back earlier. The masks are those of classes 0, 1, 2; classes is 3 in luma, 2 in chroma.
-#[derive(Drop)]
+#[derive(Clone, Copy)]
 pub struct UnitLine {
     pub q: usize,
     pub line_step: usize,

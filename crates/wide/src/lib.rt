@@ -1,4 +1,6 @@
 // The wide filters of one line, 7.14.6.4. The standard's position i is place 8 + i, and its tap j is tap n + j.
+#![tactic(auto)]
+
 ghost use Rattle.std.specs.Prelude.{◌≡◌, ℕ, ◌+◌, ◌-◌, ◌*◌, ◌^◌, ◌<◌, ◌≤◌, pos, nat_abs, get_or};
 ghost use Rattle.standard.specs.Math.{Round2, clip, sum_to};
 ghost use Rattle.standard.specs.Wide.{tap, wide_at};

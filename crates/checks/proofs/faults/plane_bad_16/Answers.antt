@@ -1,0 +1,38 @@
+-- `plane_bad_16` meets its contract: a plane too short, a row outside the frame, or a scan of its samples.
+use mathlib.Core.Path.{sym, ◌∙◌}
+use borrow.Author.Tests.{not-false}
+use Rattle.loops.proofs.Bools.{no, yes}
+use Rattle.checks.proofs.TestsPassed.{samples-fit, proper}
+use Rattle.checks.proofs.Planes.{plane-short, plane-out, plane-read}
+use Rattle.checks.proofs.faults.plane_bad_16.Goals as goal
+
+pub returns-then-plane_short : goal.returns-then-plane_short
+returns-then-plane_short c = plane-short c.args.c c.args.plane _ (sym c.plane_short.ensures ∙ c.if-plane_short.true)
+
+pub returns-then-not-inside : goal.returns-then-not-inside
+returns-then-not-inside c =
+    plane-out c.args.c c.args.plane _
+    (sym c.plane_short.ensures ∙ c.if-plane_short.false) (no c.inside.ensures c.if-not-inside.true)
+
+pub samples_high-requires : goal.samples_high-requires
+samples_high-requires c =
+    let a = c.args.c in
+    let plane = c.args.plane in
+    let p = c.requires in (
+      rw (c.stride_of-stride.ensures, c.plane_ss_hor.ensures, c.plane_ss_ver.ensures, c.superblock_units-sb4.ensures)
+          (samples-fit a plane _ p.0 (yes c.inside.ensures c.if-not-inside.false)
+          (not-false _ (sym c.plane_short.ensures ∙ c.if-plane_short.false))),
+      rw c.plane_ss_hor.ensures (proper a plane).ss-hor-le,
+      rw c.plane_ss_ver.ensures (proper a plane).ss-ver-le,
+      p.1,
+    )
+
+pub returns : goal.returns
+returns c =
+    plane-read c.args.c c.args.plane _ (sym c.plane_short.ensures ∙ c.if-plane_short.false) (yes c.inside.ensures c.if-not-inside.false)
+    (rw (
+      c.stride_of-stride.ensures,
+      c.plane_ss_hor.ensures,
+      c.plane_ss_ver.ensures,
+      c.superblock_units-sb4.ensures,
+    ) at c.samples_high.ensures)

@@ -1,0 +1,6 @@
+-- What the contracts on numbers of elements to lend cite.
+--   IsPrefixLen n xs   `&xs[..n]` is in bounds, and has n elements
+use Rattle.std.specs.Prelude.{◌≡◌, ℕ, ◌≤◌, List, length, take}
+
+abbrev pub IsPrefixLen : ℕ → List ℕ → Type 0
+IsPrefixLen n xs = (n ≤ length xs) × (n ≡ length (take n xs))
