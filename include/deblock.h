@@ -1,4 +1,4 @@
-// Verified AV1 deblocking: the calls of libdeblock.a, which `rt staticlib deblock` builds. deblock_frame.h has the same
+// Verified AV1 deblocking: the calls of libdeblock.a, which `tools/prove deblock` builds. deblock_frame.h has the same
 // calls with structs, and the lengths of everything that is lent: begin there.
 //
 // Every call returns on all input, keeps no state and checks its own arguments. It answers a number (deblock_list answers

@@ -1,9 +1,9 @@
 # shellcheck shell=sh disable=SC2154
-# The folders of the Rattle kit, found as rt finds them, and its C compiler and linker. To be sourced; root is the repository's folder.
+# The folders of the Rattle kit, RATTLE_HOME or the one that rt lies in, and its C compiler and linker. To be sourced; root is the
+# repository's folder.
 rt=$(command -v rt) || { echo 'there is no rt on the PATH: install the Rattle kit' >&2; exit 2; }
 home=${RATTLE_HOME:-$(dirname "$(dirname "$(readlink -f "$rt")")")}
-own=$home/on/$(uname -m)
-toolchain=$own/toolchain
+toolchain=$home/toolchain
 target=x86_64-unknown-linux-gnu
 
 compile() { # FILE.c FILE.o
@@ -12,5 +12,5 @@ compile() { # FILE.c FILE.o
 }
 
 join() { # PROGRAM FILE..
-    "$own/bin/rattle-link" --target $target --toolchain "$toolchain" -o "$@"
+    "$home/bin/rattle-link" --target $target --toolchain "$toolchain" -o "$@"
 }

@@ -30,7 +30,7 @@ fn main() {
         archive.is_file(),
     ) else {
         refuse(&format!(
-            "no archive at {}: run `rt staticlib deblock` in the repository, or name one in DEBLOCK_ARCHIVE",
+            "no archive at {}: run `tools/prove deblock` in the repository, or name one in DEBLOCK_ARCHIVE",
             archive.display()
         ));
     };

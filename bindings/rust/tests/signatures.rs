@@ -68,7 +68,7 @@ fn lowered(parameter: &str) -> Vec<String> {
 
 fn exported(text: &str) -> Table {
     let calls = calls(text, "pub extern \"C\" fn ", lowered);
-    assert_eq!(calls.len(), text.matches("#[no_mangle]").count());
+    assert_eq!(calls.len(), text.matches("#[unsafe(no_mangle)]").count());
     calls
 }
 
