@@ -1,6 +1,6 @@
 //! Holds the crate to the sources that it speaks for: `src/ffi.rs` to the calls of crate `deblock`, by each
-//! parameter's name, type and place, and by the result; the refusals to the numbers of crate `units`, by name; the
-//! sizes to its tables; the conversion of block codes, and the transform codes, to rav1d's own enums.
+//! parameter's name, type and place, and by the result; the refusals to those of crate `refusals`, by name; the sizes
+//! to the tables of crate `units`; the conversion of block codes, and the transform codes, to rav1d's own enums.
 
 use deblock::{BlockSize, Refusal, TxSize};
 use std::collections::{BTreeMap, BTreeSet};
@@ -10,7 +10,7 @@ use std::path::PathBuf;
 
 const CALLS: &str = "crates/deblock/src";
 const FFI: &str = "bindings/rust/src/ffi.rs";
-const NUMBERS: &str = "crates/units/src/numbers.rt";
+const NUMBERS: &str = "crates/refusals/src/lib.rt";
 const SIZES: &str = "crates/units/src/sizes.rt";
 const RAV1D: &str = "oracle/rust/rav1d/src/levels.rs";
 
@@ -72,22 +72,14 @@ fn exported(text: &str) -> Table {
     calls
 }
 
-/// `LEVEL_BYTE` as Rust has it, `LevelByte`.
-fn camel(name: &str) -> String {
-    let word = |word: &str| word[..1].to_string() + &word[1..].to_lowercase();
-    name.split('_').map(word).collect()
-}
-
-/// The constants of crate `units`; `DONE` and `FORM` are no refusals.
+/// The refusals of crate `refusals` and their numbers.
 fn numbers(text: &str) -> Table {
-    let constants = text.split("pub const ").skip(1);
-    let number = |constant: &str| {
-        let (name, rest) = constant.split_once(": u32 = ").unwrap();
-        (camel(name), vec![rest.split(';').next().unwrap().into()])
+    let rows = text.split("Refusal::").skip(1);
+    let number = |row: &str| {
+        let (name, rest) = row.split_once(" => ")?;
+        Some((name.into(), vec![rest.split(',').next()?.into()]))
     };
-    let all = constants.map(number);
-    all.filter(|(name, _)| name != "Done" && name != "Form")
-        .collect()
+    rows.filter_map(number).collect()
 }
 
 /// The rows of a table of crate `units`, `UNITS, // NAME`.
@@ -196,13 +188,13 @@ const DRIFTS: [(&str, &str, &str); 21] = [
     (FFI, "update: &mut [u8; 10]", "update: &mut [u8; 8]"),
     (FFI, "ref_before: &[i8; 8]", "ref_delta: &[i8; 8]"),
     (FFI, "pub fn deblock_rows_8(", "pub fn deblock_rows("),
-    (NUMBERS, "const SHAPE: u32", "const FRAME: u32"),
-    (NUMBERS, "GAP: u32 = 11", "GAP: u32 = 13"),
-    (NUMBERS, "BITS: u32 = 23", "BITS: u32 = 22"),
+    (NUMBERS, "Refusal::Shape =>", "Refusal::Frame =>"),
+    (NUMBERS, "Gap => 11", "Gap => 13"),
+    (NUMBERS, "Bits => 23", "Bits => 22"),
     (
         NUMBERS,
-        "pub const GAP",
-        "pub const A: u32 = 13; pub const GAP",
+        "Refusal::Gap =>",
+        "Refusal::A => 13, Refusal::Gap =>",
     ),
     (SIZES, "2, // 8x16\n", "4, // 8x16\n"),
     (

@@ -2,15 +2,19 @@
 // tile correction, and `rav1d_loopfilter_sbrow_rows`.
 #![tactic(auto)]
 
-ghost use Rattle.std.specs.Prelude.{◌≡◌, true, false};
-ghost use Rattle.filter.specs.Filter.{tables};
+ghost use Rattle.std.specs.Prelude.{◌≡◌, true, false, ◌^◌, ◌≤◌};
+ghost use Rattle.refusals.specs.Numbers.{answered};
+ghost use Rattle.filter.specs.Types.{tables_of, InDepth};
 ghost use Rattle.checks.specs.Call.{chroma_on, Shaped};
 ghost use Rattle.apply.specs.Promises.{Promises};
-ghost use Rattle.apply.specs.Apply.{component_of, call_of, FilterLent, Ready, Ready16, swept, swept_if};
+ghost use Rattle.apply.specs.Apply.{component_of, call_of, FilterLent, Ready16, swept, swept_if};
 
 use checks::faults::{chroma_on, stride_of};
-use checks::{Call, number_8, number_16};
+use checks::{Call, check};
 use filter::Component;
+use filter::tables::Tables;
+use plane::Pixel;
+use refusals::Refusal;
 use units::frame::superblock_units;
 use units::layout::{plane_ss_hor, plane_ss_ver};
 use units::{Sample, luma_units};
@@ -63,64 +67,52 @@ fn component(c: Call, plane: usize) -> Component
     }
 }
 
-fn plane_8(
-    s: &mut [u8],
-    c: Call,
-    plane: usize,
-    levels: &[u8],
-    masks: &[u16],
-    e: &[u8; 64],
-    i: &[u8; 64],
-)
-    requires { (c.depth ≡ 8) × Ready c (tables c.depth levels.now masks.now e.now i.now) plane s.old }
-    ensures { s.new ≡ swept c (tables c.depth levels.now masks.now e.now i.now) plane s.old }
+fn sweep<P: Pixel>(s: &mut [P], c: Call, t: Tables, plane: usize)
+    requires { InDepth t.depth P.top × Ready16 c (tables_of t) plane (P.samples s.old) }
+    ensures { P.samples s.new ≡ swept c (tables_of t.entry) plane (P.samples s.old) }
 {
     let p = component(c, plane);
-    filter::plane_8(s, p, c.rowwise, c.row, levels, masks, e, i);
+    filter::sweep(s, p, t, c.rowwise, c.row);
 }
 
-fn chroma_8(
-    u: &mut [u8],
-    v: &mut [u8],
-    c: Call,
-    levels: &[u8],
-    masks: &[u16],
-    e: &[u8; 64],
-    i: &[u8; 64],
-)
-    requires { (c.depth ≡ 8) × (chroma_on c ≡ true → Ready c (tables c.depth levels.now masks.now e.now i.now) 1 u.old
-        × Ready c (tables c.depth levels.now masks.now e.now i.now) 2 v.old) }
-    ensures u { u.new ≡ swept_if c (tables c.depth levels.now masks.now e.now i.now) 1 u.old }
-    ensures v { v.new ≡ swept_if c (tables c.depth levels.now masks.now e.now i.now) 2 v.old }
+fn chroma<P: Pixel>(u: &mut [P], v: &mut [P], c: Call, t: Tables)
+    requires { InDepth t.depth P.top × (chroma_on c ≡ true → Ready16 c (tables_of t) 1 (P.samples u.old) × Ready16 c (tables_of t) 2 (P.samples v.old)) }
+    ensures u { P.samples u.new ≡ swept_if c (tables_of t.entry) 1 (P.samples u.old) }
+    ensures v { P.samples v.new ≡ swept_if c (tables_of t.entry) 2 (P.samples v.old) }
 {
     if !chroma_on(c) {
         return;
     }
-    plane_8(u, c, 1, levels, masks, e, i);
-    plane_8(v, c, 2, levels, masks, e, i);
+    sweep(u, c, t, 1);
+    sweep(v, c, t, 2);
 }
 
-fn filter_8(
-    luma: &mut [u8],
-    u: &mut [u8],
-    v: &mut [u8],
+// Asks that the depths that a call may have are ones that the samples' type can store.
+fn pass<P: Pixel>(
+    luma: &mut [P],
+    u: &mut [P],
+    v: &mut [P],
     c: Call,
     levels: &[u8],
     masks: &[u16],
     e: &[u8; 64],
     i: &[u8; 64],
-) -> u32
-    requires { c.depth ≡ 8 }
-    ensures { FilterLent c luma.old u.old v.old levels.now masks.now e.now i.now result
-        luma.new u.new v.new }
+) -> Result<(), Refusal>
+    requires { c.depth ≤ 12 → 2 ^ c.depth ≤ P.top }
+    ensures { FilterLent c (P.samples luma.old) (P.samples u.old) (P.samples v.old) levels.now masks.now e.now i.now (answered result)
+        (P.samples luma.new) (P.samples u.new) (P.samples v.new) }
 {
-    let n = number_8(c, luma, u, v, levels, masks);
-    if n != 0 {
-        return n;
-    }
-    plane_8(luma, c, 0, levels, masks, e, i);
-    chroma_8(u, v, c, levels, masks, e, i);
-    0
+    check(c, luma, u, v, levels, masks)?;
+    let t = Tables {
+        depth: c.depth,
+        levels,
+        masks,
+        e,
+        i,
+    };
+    sweep(luma, c, t, 0);
+    chroma(u, v, c, t);
+    Ok(())
 }
 
 pub fn columns_8(
@@ -141,9 +133,9 @@ pub fn columns_8(
     level_u: u32,
     level_v: u32,
     row: u32,
-) -> u32
+) -> Result<(), Refusal>
     ensures { FilterLent (call_of false 8 luma_stride chroma_stride level_stride width height layout superblock level_u level_v row)
-        luma.old u.old v.old levels.now masks.now e.now i.now result
+        luma.old u.old v.old levels.now masks.now e.now i.now (answered result)
         luma.new u.new v.new }
 {
     let c = call(
@@ -160,7 +152,7 @@ pub fn columns_8(
         level_v,
         row,
     );
-    filter_8(luma, u, v, c, levels, masks, e, i)
+    pass(luma, u, v, c, levels, masks, e, i)
 }
 
 pub fn rows_8(
@@ -181,9 +173,9 @@ pub fn rows_8(
     level_u: u32,
     level_v: u32,
     row: u32,
-) -> u32
+) -> Result<(), Refusal>
     ensures { FilterLent (call_of true 8 luma_stride chroma_stride level_stride width height layout superblock level_u level_v row)
-        luma.old u.old v.old levels.now masks.now e.now i.now result
+        luma.old u.old v.old levels.now masks.now e.now i.now (answered result)
         luma.new u.new v.new }
 {
     let c = call(
@@ -200,66 +192,7 @@ pub fn rows_8(
         level_v,
         row,
     );
-    filter_8(luma, u, v, c, levels, masks, e, i)
-}
-
-fn plane_16(
-    s: &mut [u16],
-    c: Call,
-    plane: usize,
-    levels: &[u8],
-    masks: &[u16],
-    e: &[u8; 64],
-    i: &[u8; 64],
-)
-    requires { Ready16 c (tables c.depth levels.now masks.now e.now i.now) plane s.old }
-    ensures { s.new ≡ swept c (tables c.depth levels.now masks.now e.now i.now) plane s.old }
-{
-    let p = component(c, plane);
-    filter::plane_16(s, p, c.rowwise, c.row, levels, masks, e, i, c.depth);
-}
-
-fn chroma_16(
-    u: &mut [u16],
-    v: &mut [u16],
-    c: Call,
-    levels: &[u8],
-    masks: &[u16],
-    e: &[u8; 64],
-    i: &[u8; 64],
-)
-    requires { chroma_on c ≡ true → Ready16 c (tables c.depth levels.now masks.now e.now i.now) 1 u.old
-        × Ready16 c (tables c.depth levels.now masks.now e.now i.now) 2 v.old }
-    ensures u { u.new ≡ swept_if c (tables c.depth levels.now masks.now e.now i.now) 1 u.old }
-    ensures v { v.new ≡ swept_if c (tables c.depth levels.now masks.now e.now i.now) 2 v.old }
-{
-    if !chroma_on(c) {
-        return;
-    }
-    plane_16(u, c, 1, levels, masks, e, i);
-    plane_16(v, c, 2, levels, masks, e, i);
-}
-
-fn filter_16(
-    luma: &mut [u16],
-    u: &mut [u16],
-    v: &mut [u16],
-    c: Call,
-    levels: &[u8],
-    masks: &[u16],
-    e: &[u8; 64],
-    i: &[u8; 64],
-) -> u32
-    ensures { FilterLent c luma.old u.old v.old levels.now masks.now e.now i.now result
-        luma.new u.new v.new }
-{
-    let n = number_16(c, luma, u, v, levels, masks);
-    if n != 0 {
-        return n;
-    }
-    plane_16(luma, c, 0, levels, masks, e, i);
-    chroma_16(u, v, c, levels, masks, e, i);
-    0
+    pass(luma, u, v, c, levels, masks, e, i)
 }
 
 pub fn columns_16(
@@ -281,9 +214,9 @@ pub fn columns_16(
     level_u: u32,
     level_v: u32,
     row: u32,
-) -> u32
+) -> Result<(), Refusal>
     ensures { FilterLent (call_of false depth luma_stride chroma_stride level_stride width height layout superblock level_u level_v row)
-        luma.old u.old v.old levels.now masks.now e.now i.now result
+        luma.old u.old v.old levels.now masks.now e.now i.now (answered result)
         luma.new u.new v.new }
 {
     let c = call(
@@ -300,7 +233,7 @@ pub fn columns_16(
         level_v,
         row,
     );
-    filter_16(luma, u, v, c, levels, masks, e, i)
+    pass(luma, u, v, c, levels, masks, e, i)
 }
 
 pub fn rows_16(
@@ -322,9 +255,9 @@ pub fn rows_16(
     level_u: u32,
     level_v: u32,
     row: u32,
-) -> u32
+) -> Result<(), Refusal>
     ensures { FilterLent (call_of true depth luma_stride chroma_stride level_stride width height layout superblock level_u level_v row)
-        luma.old u.old v.old levels.now masks.now e.now i.now result
+        luma.old u.old v.old levels.now masks.now e.now i.now (answered result)
         luma.new u.new v.new }
 {
     let c = call(
@@ -341,7 +274,7 @@ pub fn rows_16(
         level_v,
         row,
     );
-    filter_16(luma, u, v, c, levels, masks, e, i)
+    pass(luma, u, v, c, levels, masks, e, i)
 }
 
 // The theorems of specs/Promises.antt are proved.

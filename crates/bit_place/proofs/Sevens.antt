@@ -1,14 +1,14 @@
--- Seven bits in i8: the machine's steps through i32 give the number of the definition, since each fits; and the way back.
+-- Seven bits as a signed number that fits an i8, and the way back.
 use mathlib.Core.Path.{◌≡◌, refl, sym, ap, subst, ◌∙◌}
 use mathlib.Core.Bool.{Bool, true, false}
 use Prim.Native.Nat.{ℕ, suc, ◌+◌, ◌-◌, ◌%◌, ◌<◌, ◌≤◌}
 use native.Mathlib.Omega.{arith}
 use borrow.Author.Tests.{lt-ltb, le-ltb, ltb-true, ltb-false}
 use lib.Dec.{ltb}
-use lib.IntN.{ℤ, pos, negsuc, nat_abs, sub_ℕ, ◌+ℤ◌, ◌-ℤ◌}
-use mir.Syntax.{w8, w32}
+use lib.IntN.{ℤ, pos, negsuc, nat_abs, sub_ℕ, ◌+ℤ◌}
+use mir.Syntax.{w8}
 use mir.Val.{to_z, of_z, SFits}
-use mir.ValLaws.{to_z-of_z, to_z_pos}
+use mir.ValLaws.{to_z-of_z}
 use Rattle.loops.proofs.Ints.{is_pos, is-neg, sub-plus}
 use Rattle.standard.specs.Header.{su_of}
 use Rattle.bit_place.specs.Seven.{seven_of}
@@ -18,25 +18,6 @@ small v h = simp (lt-ltb v 64 h)
 
 pub large : (v : ℕ) → 64 ≤ v → v < 128 → su_of v ≡ negsuc (127 - v)
 large v l h = simp (le-ltb v 64 l) (is-neg v 128 (127 - v) (omega arith))
-
-pub plain : (v : ℕ) → v < 64 → to_z w8 v ≡ su_of v
-plain v h = to_z_pos w8 v (omega arith) ∙ sym (small v h)
-
-module _ (v : ℕ) (l : 64 ≤ v) (h : v < 128) where
-  difference : to_z w32 v -ℤ pos 128 ≡ negsuc (127 - v)
-  difference = ap (λ (z : ℤ). z -ℤ pos 128) (to_z_pos w32 v (omega arith)) ∙ is-neg v 128 (127 - v) (omega arith)
-
-  pub fits32 : SFits w32 (to_z w32 v -ℤ pos 128)
-  fits32 = subst (SFits w32) (sym difference) (record { sfits = omega arith })
-
-  back : to_z w32 (of_z w32 (to_z w32 v -ℤ pos 128)) ≡ negsuc (127 - v)
-  back = to_z-of_z w32 _ fits32 ∙ difference
-
-  pub fits8 : SFits w8 (to_z w32 (of_z w32 (to_z w32 v -ℤ pos 128)))
-  fits8 = subst (SFits w8) (sym back) (record { sfits = omega arith })
-
-  pub negative : to_z w8 (of_z w8 (to_z w32 (of_z w32 (to_z w32 v -ℤ pos 128)))) ≡ su_of v
-  negative = to_z-of_z w8 _ fits8 ∙ back ∙ sym (large v l h)
 
 -- a number of seven bits fits an i8, so what is stored is read back
 pub kept : (v : ℕ) → v < 128 → to_z w8 (of_z w8 (su_of v)) ≡ su_of v

@@ -45,11 +45,9 @@ pub fn number(bytes: &[u8], at: usize, k: usize, n: usize) -> u8
     requires { (k ≤ 190) × (n ≤ 7) }
     ensures { (result ≡ number_at (bit_at bytes.now) (at + k) n) × (result < 2 ^ n) }
 {
-    let mut v: u8 = 0;
-    let mut i = 0;
-    while i < n {
+    let mut v = 0;
+    for i in 0..n {
         v = 2 * v + bit(bytes, at, k + i);
-        i += 1;
     }
     v
 }
@@ -67,10 +65,8 @@ pub fn put(bytes: &mut [u8], at: usize, k: usize, n: usize, v: u8)
     requires { (k ≤ 190) × (n ≤ 8) × (at + k + n ≤ 8 * length bytes.old) }
     ensures { bytes.new ≡ laid (digits n v) (at + k) bytes.old }
 {
-    let mut left = n;
-    while 0 < left {
-        left -= 1;
-        put_bit(bytes, at, k + (n - 1 - left), v >> left);
+    for i in 0..n {
+        put_bit(bytes, at, k + i, v >> (n - 1 - i));
     }
 }
 
@@ -92,7 +88,7 @@ pub fn su7(v: u8) -> i8
     if v < 64 {
         return v as i8;
     }
-    (v as i32 - 128) as i8
+    (i32::from(v) - 128) as i8
 }
 
 pub fn seven(d: i8) -> u8

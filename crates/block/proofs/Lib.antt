@@ -1,3 +1,4 @@
+pub mod Contexts
 pub mod TestsPassed
 pub mod NoFault
 pub mod Numbers

@@ -1,14 +1,11 @@
 -- What a block that passes a test has, from the comparisons that the test is made of.
 use mathlib.Core.Bool.{Bool, true, false, cond, not, ◌&&◌, ◌||◌}
-use mathlib.Core.List.{List}
 use mathlib.Core.Path.{◌≡◌, refl, sym, ap, ◌∙◌}
 use Prim.Native.Nat.{ℕ, ◌%◌, ◌<◌, ◌≤◌}
 use native.Mathlib.Omega.{arith}
 use lib.Dec.{eqb, ltb}
-use lib.ListN.{length, get_or}
-use borrow.Author.Tests.{not-false, ltb-false, eqb-true, lt-ltb, le-ltb}
-use Rattle.loops.specs.Any.{any_below}
-use Rattle.loops.proofs.Anys.{any-true}
+use lib.ListN.{length}
+use borrow.Author.Tests.{not-false, ltb-false, eqb-true}
 use Rattle.loops.proofs.Tables.{each_at}
 use Rattle.loops.proofs.Bools.{or_off}
 use Rattle.units.specs.Units.{chroma_unit, chroma_units}
@@ -17,7 +14,7 @@ use Rattle.units.specs.Frame.{frame_ok}
 use Rattle.units.proofs.Tests.{reflects-frame}
 use Rattle.block.specs.declared.Block.{Block}
 use Rattle.block.specs.Block.{w4, h4, block_width, block_height, Lent, Sides}
-use Rattle.block.specs.Tests.{shape_bad, code_bad, place_bad, tx_bad, max_tx_bad, ref_bad, block_bad, context_bad, luma_contexts_bad, chroma_contexts_bad, contexts_bad, length_bad, number}
+use Rattle.block.specs.Tests.{shape_bad, code_bad, place_bad, tx_bad, max_tx_bad, ref_bad, block_bad, luma_contexts_bad, chroma_contexts_bad, contexts_bad, length_bad, number}
 
 module _ (b : Block) where
   pub shaped : shape_bad b ≡ false → ((1 ≤ b.width.0) × (b.width.0 ≤ 16384)) × ((1 ≤ b.height.0) × (b.height.0 ≤ 16384))
@@ -74,12 +71,6 @@ module _ (b : Block) (level-stride : ℕ) (m : Lent) where
       (sym (five (place_bad b) (tx_bad b) (max_tx_bad b) (ref_bad b) _)
       ∙ ap (λ (n : ℕ). cond (block_bad b) 5 n) (sym (six (luma_contexts_bad b m.above m.left) (chroma_contexts_bad b m.above-uv m.left-uv) _)))
 
-  pub is-4 : shape_bad b ≡ true → 4 ≡ number b level-stride m
-  is-4 s = sym (numbered ∙ rw s refl)
-
-  pub is-5 : shape_bad b ≡ false → code_bad b ≡ true → 5 ≡ number b level-stride m
-  is-5 s c = sym (numbered ∙ rw (s, c) refl)
-
   module _ (s : shape_bad b ≡ false) (c : code_bad b ≡ false) where
     pub is-5-too : block_bad b ≡ true → 5 ≡ number b level-stride m
     is-5-too f = sym (numbered ∙ rw (s, c, f) refl)
@@ -93,25 +84,6 @@ module _ (b : Block) (level-stride : ℕ) (m : Lent) where
     pub is-0 : block_bad b ≡ false → contexts ≡ false → lengths ≡ false → 0 ≡ number b level-stride m
     is-0 f e l = sym (numbered ∙ rw (s, c, f, e, l) refl)
 
--- the visible sizes
-pub seen_as : (w h w' h' : ℕ) (r : Bool) → r ≡ (ltb 0 w && ltb 0 h) → w ≡ w' → h ≡ h' → r ≡ (ltb 0 w' && ltb 0 h')
-seen_as w h w' h' r e p q = e ∙ rw (p, q) refl
-
-pub and-on : (x y : Bool) {z : Bool} → x ≡ true → y ≡ z → (x && y) ≡ z
-and-on x y e f = rw e f
-
 -- the chroma unit of a place up to the frame's end
 pub chroma-unit-le : (u n ss : ℕ) → u ≤ n → ss ≤ 1 → chroma_unit ss u ≤ chroma_units ss n
 chroma-unit-le u n ss h l = each_at 2 (λ s. chroma_unit s u ≤ chroma_units s n) (omega arith, (omega arith, tt)) ss (omega arith)
-
--- ---- contexts
-
-module _ (n most : ℕ) (c : List ℕ) where
-  pub context-short : length c < n → true ≡ context_bad n most c
-  context-short h = rw (lt-ltb (length c) n h) refl
-
-  pub context-high : (i : ℕ) → n ≤ length c → i < n → most < get_or c i 0 → true ≡ context_bad n most c
-  context-high i l h g = rw (le-ltb (length c) n l) (sym (any-true n (λ i. ltb most (get_or c i 0)) i h (lt-ltb most (get_or c i 0) g)))
-
-  pub context-good : (k : ℕ) → k ≡ n → n ≤ length c → any_below k (λ i. ltb most (get_or c i 0)) ≡ false → false ≡ context_bad n most c
-  context-good k e l h = rw (le-ltb (length c) n l, sym e) (sym h)

@@ -8,8 +8,8 @@ use crate::{Block, chroma_across, chroma_down, luma_across, luma_down, seen};
 use units::frame::frame_ok;
 use units::layout::{has_chroma, layout_ok, ss_hor, ss_ver};
 use units::memory::{levels_ok, masks_ok};
-use units::sizes::{chroma_tx_high, chroma_tx_wide, luma_tx_high, luma_tx_wide, max_tx_rect};
-use units::{LumaUnit, chroma_units, luma_units};
+use units::sizes::{max_tx_rect, tx_high, tx_wide};
+use units::{ChromaUnit, LumaUnit, chroma_units, luma_units};
 
 pub fn shape_bad(b: Block) -> bool
     ensures { result ≡ shape_bad b }
@@ -36,7 +36,7 @@ fn luma_tx_bad(b: Block, w: LumaUnit, h: LumaUnit) -> bool
     requires { (b.tx < 19) × (w.0 ≡ block_width b) × (h.0 ≡ block_height b) }
     ensures { result ≡ luma_tx_bad b }
 {
-    (w.0 < luma_tx_wide(b.tx).0) | (h.0 < luma_tx_high(b.tx).0)
+    (w.0 < tx_wide::<LumaUnit>(b.tx).0) | (h.0 < tx_high::<LumaUnit>(b.tx).0)
 }
 
 fn chroma_tx_bad(b: Block, w: LumaUnit, h: LumaUnit) -> bool
@@ -48,7 +48,7 @@ fn chroma_tx_bad(b: Block, w: LumaUnit, h: LumaUnit) -> bool
     }
     let cw = chroma_units(w, ss_hor(b.layout)).0;
     let ch = chroma_units(h, ss_ver(b.layout)).0;
-    (cw < chroma_tx_wide(b.uvtx).0) | (ch < chroma_tx_high(b.uvtx).0)
+    (cw < tx_wide::<ChromaUnit>(b.uvtx).0) | (ch < tx_high::<ChromaUnit>(b.uvtx).0)
 }
 
 fn tx_bad(b: Block, w: LumaUnit, h: LumaUnit) -> bool
@@ -81,15 +81,7 @@ pub fn block_bad(b: Block, w: LumaUnit, h: LumaUnit) -> bool
 pub fn context_bad(ctx: &[u8], n: usize, most: u8) -> bool
     ensures { result ≡ context_bad n most ctx.now }
 {
-    if ctx.len() < n {
-        return true;
-    }
-    for i in 0..n {
-        if most < ctx[i] {
-            return true;
-        }
-    }
-    false
+    ctx.len() < n || ctx[..n].iter().any(|c| most < *c)
 }
 
 fn luma_contexts_bad(b: Block, across: LumaUnit, down: LumaUnit, above: &[u8], left: &[u8]) -> bool

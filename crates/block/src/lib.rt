@@ -2,14 +2,14 @@
 #![tactic(auto)]
 
 pub mod faults;
-pub mod number;
+pub mod refusal;
 
 ghost use Rattle.std.specs.Prelude.{◌≡◌, ◌&&◌, ◌≤◌, ltb};
 ghost use Rattle.block.specs.Block.{w4, h4, block_width, block_height, bw4, bh4, chroma_side, cbw4, cbh4, Sides};
 
 use units::layout::{ss_hor, ss_ver};
 use units::sizes::{block_high, block_wide};
-use units::{ChromaUnit, LumaUnit, Sample, chroma_unit, chroma_units, least, luma_units};
+use units::{ChromaUnit, LumaUnit, Sample, chroma_unit, chroma_units, luma_units};
 
 // The frame, the block's place, codes and chroma pair; of an intra block skip, reference and mode are 0.
 #[derive(Clone, Copy)]
@@ -30,12 +30,13 @@ pub struct Block {
 }
 
 // Here and below n is the block's side.
+#[tactic(auto, unfolding(crate::specs::Block::bw4))]
 pub fn luma_across(b: Block, n: LumaUnit) -> LumaUnit
     requires { Sides b × (b.x.0 ≤ w4 b) × (n.0 ≡ block_width b) }
     ensures { result.0 ≡ bw4 b }
 {
     let rest = luma_units(b.width).0 - b.x.0;
-    LumaUnit(least(rest, n.0))
+    LumaUnit(rest.min(n.0))
 }
 
 pub fn luma_wide(b: Block) -> LumaUnit
@@ -45,12 +46,13 @@ pub fn luma_wide(b: Block) -> LumaUnit
     luma_across(b, block_wide(b.size))
 }
 
+#[tactic(auto, unfolding(crate::specs::Block::bh4))]
 pub fn luma_down(b: Block, n: LumaUnit) -> LumaUnit
     requires { Sides b × (b.y.0 ≤ h4 b) × (n.0 ≡ block_height b) }
     ensures { result.0 ≡ bh4 b }
 {
     let below = luma_units(b.height).0 - b.y.0;
-    LumaUnit(least(below, n.0))
+    LumaUnit(below.min(n.0))
 }
 
 pub fn luma_high(b: Block) -> LumaUnit
@@ -65,12 +67,11 @@ fn chroma_side(all: LumaUnit, u: LumaUnit, n: LumaUnit, ss: usize) -> ChromaUnit
     requires { (u.0 ≤ all.0) × (all.0 ≤ 4096) × (n.0 ≤ 32) × (ss ≤ 1) }
     ensures { result.0 ≡ chroma_side all.0 u.0 n.0 ss }
 {
-    ChromaUnit(least(
-        chroma_units(all, ss).0 - chroma_unit(u, ss).0,
-        chroma_units(n, ss).0,
-    ))
+    let rest = chroma_units(all, ss).0 - chroma_unit(u, ss).0;
+    ChromaUnit(rest.min(chroma_units(n, ss).0))
 }
 
+#[tactic(auto, unfolding(crate::specs::Block::cbw4))]
 pub fn chroma_across(b: Block, n: LumaUnit) -> ChromaUnit
     requires { Sides b × (b.x.0 ≤ w4 b) × (n.0 ≡ block_width b) }
     ensures { result.0 ≡ cbw4 b }
@@ -85,6 +86,7 @@ pub fn chroma_wide(b: Block) -> ChromaUnit
     chroma_across(b, block_wide(b.size))
 }
 
+#[tactic(auto, unfolding(crate::specs::Block::cbh4))]
 pub fn chroma_down(b: Block, n: LumaUnit) -> ChromaUnit
     requires { Sides b × (b.y.0 ≤ h4 b) × (n.0 ≡ block_height b) }
     ensures { result.0 ≡ cbh4 b }

@@ -2,17 +2,43 @@
 use mathlib.Core.Bool.{Bool, true, false, cond}
 use mathlib.Core.List.{List}
 use mathlib.Core.Logic.{⊎_elim}
-use mathlib.Core.Path.{◌≡◌, refl}
+use mathlib.Core.Path.{◌≡◌, refl, ap}
 use Prim.Native.Nat.{ℕ, ◌<◌}
 use native.Mathlib.Omega.{arith}
 use lib.Dec.{eqb}
 use lib.ListN.{length}
 use borrow.Author.Tests.{ne_eqb}
+use Rattle.std.specs.Prelude.{Result, Ok, Err, IsErrAnd}
 use Rattle.loops.proofs.Numbers.{passed}
+use Rattle.refusals.specs.Numbers.{number_of, answered}
+use Rattle.refusals.specs.declared.Refusal.{Refusal}
+use Rattle.refusals.specs.declared.Refusal.TheVariants.{Sharpness, Level, Depth, Shape, Block, Context, Length, LevelByte, Plane, Outside, Gap, MaskBit, Bits, Unwritable}
 use Rattle.checks.specs.declared.Call.{Call}
 use Rattle.checks.specs.Call.{Lent, Shaped, Roomy}
 use Rattle.checks.specs.Tests.{level_bad, depth_bad, shape_bad, length_bad, levels_bad, planes_bad, given, marked, number}
 use Rattle.checks.proofs.TestsPassed.{depths, shaped, roomy}
+
+-- ---- a refusal has a number
+
+pub some-number : (r : Refusal) → ¬ (number_of r ≡ 0)
+some-number Sharpness e = absurd (omega arith)
+some-number Level e = absurd (omega arith)
+some-number Depth e = absurd (omega arith)
+some-number Shape e = absurd (omega arith)
+some-number Block e = absurd (omega arith)
+some-number Context e = absurd (omega arith)
+some-number Length e = absurd (omega arith)
+some-number LevelByte e = absurd (omega arith)
+some-number Plane e = absurd (omega arith)
+some-number Outside e = absurd (omega arith)
+some-number Gap e = absurd (omega arith)
+some-number MaskBit e = absurd (omega arith)
+some-number Bits e = absurd (omega arith)
+some-number Unwritable e = absurd (omega arith)
+
+pub same-number : {A : Type 0} (r : Result A Refusal) (e : Refusal) → IsErrAnd r (λ x. x ≡ e) → answered r ≡ number_of e
+same-number (Ok x) e h = absurd h
+same-number (Err x) e h = ap number_of h
 
 -- five tests, and x behind them
 abbrev five : Bool → Bool → Bool → Bool → Bool → ℕ → ℕ

@@ -1,7 +1,7 @@
 -- The tests of a call from those of its planes: luma's, and chroma's where it is filtered.
-use mathlib.Core.Bool.{Bool, true, false, not, ◌||◌, ◌&&◌, or-false, or_self}
+use mathlib.Core.Bool.{Bool, true, false, not, ◌||◌, ◌&&◌, or-false}
 use mathlib.Core.List.{List}
-use mathlib.Core.Path.{◌≡◌, refl, sym, ◌∙◌, ap}
+use mathlib.Core.Path.{◌≡◌, refl, ◌∙◌}
 use Prim.Native.Nat.{ℕ, ◌+◌, ◌-◌, ◌*◌, ◌^◌, ◌<◌}
 use native.Mathlib.Omega.{arith}
 use lib.ListN.{length, get_or}
@@ -12,11 +12,10 @@ use Rattle.plane.specs.Line.{columns, rows, pass_no}
 use Rattle.edges.specs.Edges.{units_of}
 use Rattle.scans.specs.Scan.{levels_high, luma_levels_high, chroma_levels_high, samples_high}
 use Rattle.scans.proofs.NumbersMean.{promises}
-use Rattle.gap.specs.Numbers.{sb_units, gap, outside, Found}
-use Rattle.gap.specs.declared.Both.{Both}
+use Rattle.gap.specs.Numbers.{sb_units}
 use Rattle.checks.specs.declared.Call.{Call}
 use Rattle.checks.specs.Call.{Lent, samples, call_pass, w4, h4, sb4, ss-hor, ss-ver, grid_of, stride_of, area_of, chroma_on}
-use Rattle.checks.specs.Tests.{any_plane, inside, levels_bad, plane_bad, planes_bad, gap_bad, mask_bad}
+use Rattle.checks.specs.Tests.{any_plane, inside, levels_bad, plane_bad, planes_bad}
 use Rattle.checks.proofs.TestsPassed.{unmet}
 
 module _ (c : Call) where
@@ -59,36 +58,36 @@ module _ (c : Call) where
 
   -- ---- number 9
 
-  module _ (plane : ℕ) (s : List ℕ) where
+  module _ (plane : ℕ) (s : List ℕ) {len : ℕ} (l : length s ≡ len) where
     abbrev short : Bool
-    short = not (plane_ok (length s) (stride_of c plane) (stored c.width.0 (ss-hor c plane)) (stored c.height.0 (ss-ver c plane)))
+    short = not (plane_ok len (stride_of c plane) (stored c.width.0 (ss-hor c plane)) (stored c.height.0 (ss-ver c plane)))
 
     abbrev samples_over : Bool
     samples_over = samples_high s (stride_of c plane) (2 ^ c.depth - 1) (stored c.width.0 (ss-hor c plane)) (chroma_unit (ss-ver c plane) (sb4 c)) (8 * pass_no (call_pass c)) c.row
 
     pub plane-short : short ≡ true → true ≡ plane_bad c plane s
     unfolding plane_bad
-    plane-short e = rw e refl
+    plane-short e = rw (l, e) refl
 
     pub plane-out : short ≡ false → inside c ≡ false → false ≡ plane_bad c plane s
     unfolding plane_bad
-    plane-out e o = rw (e, o) refl
+    plane-out e o = rw (l, e, o) refl
 
     pub plane-read : {r : Bool} → short ≡ false → inside c ≡ true → r ≡ samples_over → r ≡ plane_bad c plane s
     unfolding plane_bad
-    plane-read e o h = rw (e, o) h
+    plane-read e o h = rw (l, e, o) h
 
-    -- a byte is no sample above depth 8's maximum
-    pub plane-bytes : {r : Bool} → c.depth ≡ 8 → ((k : ℕ) → get_or s k 0 < 256) → r ≡ short → r ≡ plane_bad c plane s
+    -- no sample is above the depth's maximum
+    pub plane-fit : short ≡ false → ((k : ℕ) → get_or s k 0 < 2 ^ c.depth) → false ≡ plane_bad c plane s
     unfolding plane_bad
-    plane-bytes d b e = rw none (e ∙ sym (none-too (inside c) short))
+    plane-fit e b = rw (l, e, none) (none-too (inside c))
       where
         none : samples_over ≡ false
-        none = let p : 2 ^ c.depth ≡ 2 ^ 8 = ap (λ (x : ℕ). 2 ^ x) d in unmet _ (promises.nine s _ _ _ _ _ _) (λ h. omega (arith, h.too-high, b (h.y * stride_of c plane + h.x)))
+        none = unmet _ (promises.nine s _ _ _ _ _ _) (λ h. omega (arith, h.too-high, b (h.y * stride_of c plane + h.x)))
 
-        none-too : (a b : Bool) → (b || (a && false)) ≡ b
-        none-too true b = or-false b
-        none-too false b = or-false b
+        none-too : (a : Bool) → false ≡ (a && false)
+        none-too true = refl
+        none-too false = refl
 
   module _ (m : Lent) where
     pub planes-luma : {r : Bool} → chroma_on c ≡ false → r ≡ plane_bad c 0 m.luma → r ≡ planes_bad c m
@@ -96,20 +95,3 @@ module _ (c : Call) where
 
     pub planes-all : {r s : Bool} → chroma_on c ≡ true → r ≡ plane_bad c 0 m.luma → s ≡ (plane_bad c 1 m.u || plane_bad c 2 m.v) → (r || s) ≡ planes_bad c m
     planes-all o e f = with-chroma (λ plane. plane_bad c plane (samples m plane)) o e f
-
-  -- ---- numbers 11 and 12
-
-  module _ (ms : List ℕ) (r : Both) (f : Found (grid_of c 0) ms (call_pass c) (sb4 c) c.row r) where
-    pub found-luma : chroma_on c ≡ false → (r.gap ≡ gap_bad c ms) × (r.out ≡ mask_bad c ms)
-    found-luma o = (
-      luma-only (λ plane. gap (grid_of c plane) ms (call_pass c) (sb4 c) c.row) o f.eleven,
-      luma-only (λ plane. outside (grid_of c plane) ms (call_pass c) (sb4 c) c.row) o f.twelve,
-    )
-
-    -- U and V share their masks
-    pub found_all : (s : Both) → Found (grid_of c 1) ms (call_pass c) (sb4 c) c.row s → chroma_on c ≡ true
-        → ((r.gap || s.gap) ≡ gap_bad c ms) × ((r.out || s.out) ≡ mask_bad c ms)
-    found_all s g o = (
-      with-chroma (λ plane. gap (grid_of c plane) ms (call_pass c) (sb4 c) c.row) o f.eleven (g.eleven ∙ sym (or_self _)),
-      with-chroma (λ plane. outside (grid_of c plane) ms (call_pass c) (sb4 c) c.row) o f.twelve (g.twelve ∙ sym (or_self _)),
-    )

@@ -18,7 +18,6 @@ use Rattle.units.proofs.Tests.{reflects-frame, reflects-superblock, reflects-lev
 use Rattle.edges.specs.Edges as edges
 use Rattle.edges.specs.Edges.{Proper}
 use Rattle.scans.specs.Fits.{SbRow, LevelsFit, SamplesFit}
-use Rattle.gap.specs.Fits.{MasksFit}
 use Rattle.checks.specs.declared.Call.{Call}
 use Rattle.checks.specs.Call.{w4, h4, sb4, ss-hor, ss-ver, grid_of, stride_of, Shaped, Roomy}
 use Rattle.checks.specs.Tests.{depth_bad, shape_bad, length_bad, inside}
@@ -68,10 +67,6 @@ module _ (c : Call) where
   pub levels-fit : (levels masks : ℕ) → Shaped c → inside c ≡ true → Roomy c levels masks → LevelsFit levels c.level_stride (w4 c) (h4 c) (sb4 c) c.row
   levels-fit levels masks s e r =
       record { row = sb-row s e; some = omega (arith, s.width); most = omega (arith, s.width); width = r.width; long = r.levels-long }
-
-  pub masks-fit : (levels masks : ℕ) → Shaped c → inside c ≡ true → Roomy c levels masks → MasksFit masks (w4 c) (h4 c) (sb4 c) c.row
-  masks-fit levels masks s e r =
-      record { size = sizes s; down = in_frame s e; width = omega (arith, s.width); height = omega (arith, s.height); long = r.masks-long }
 
   pub samples-fit : (plane len : ℕ) → Shaped c → inside c ≡ true
       → plane_ok len (stride_of c plane) (stored c.width.0 (ss-hor c plane)) (stored c.height.0 (ss-ver c plane)) ≡ true

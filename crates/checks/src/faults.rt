@@ -9,6 +9,8 @@ ghost use Rattle.checks.specs.Tests.{level_bad, depth_bad, shape_bad, length_bad
 
 use crate::Call;
 use gap::Both;
+use gap::grid::Grid;
+use plane::Pixel;
 use units::frame::{frame_ok, stored_side, superblock_ok, superblock_units, superblocks_along};
 use units::layout::{has_chroma, layout_ok, plane_ss_hor, plane_ss_ver};
 use units::luma_units;
@@ -120,33 +122,17 @@ fn plane_short(c: Call, plane: usize, len: usize) -> bool
     !plane_ok(len, stride_of(c, plane), width, height)
 }
 
-// A byte is no sample above depth 8's maximum.
-fn plane_bad_8(c: Call, plane: usize, s: &[u8]) -> bool
-    requires { Shaped c × (c.depth ≡ 8) }
-    ensures { result ≡ plane_bad c plane s.now }
-{
-    plane_short(c, plane, s.len())
-}
-
-pub fn planes_bad_8(c: Call, luma: &[u8], u: &[u8], v: &[u8]) -> bool
-    requires { Shaped c × (c.depth ≡ 8) }
-    ensures { (ls ms : List ℕ) → result ≡ planes_bad c (lent luma.now u.now v.now ls ms) }
-{
-    let bad = plane_bad_8(c, 0, luma);
-    if !chroma_on(c) {
-        return bad;
-    }
-    bad | (plane_bad_8(c, 1, u) | plane_bad_8(c, 2, v))
-}
-
-fn plane_bad_16(c: Call, plane: usize, s: &[u16]) -> bool
+fn plane_bad<P: Pixel>(c: Call, plane: usize, s: &[P]) -> bool
     requires { Shaped c × (c.depth < 16) }
-    ensures { result ≡ plane_bad c plane s.now }
+    ensures { result ≡ plane_bad c plane (P.samples s.now) }
 {
     if plane_short(c, plane, s.len()) {
         return true;
     }
     if !inside(c) {
+        return false;
+    }
+    if P::fit(s, c.depth) {
         return false;
     }
     let stride = stride_of(c, plane);
@@ -165,56 +151,42 @@ fn plane_bad_16(c: Call, plane: usize, s: &[u16]) -> bool
     )
 }
 
-pub fn planes_bad_16(c: Call, luma: &[u16], u: &[u16], v: &[u16]) -> bool
+pub fn planes_bad<P: Pixel>(c: Call, luma: &[P], u: &[P], v: &[P]) -> bool
     requires { Shaped c × (c.depth < 16) }
-    ensures { (ls ms : List ℕ) → result ≡ planes_bad c (lent luma.now u.now v.now ls ms) }
+    ensures { (ls ms : List ℕ) → result ≡ planes_bad c (lent (P.samples luma.now) (P.samples u.now) (P.samples v.now) ls ms) }
 {
-    let bad = plane_bad_16(c, 0, luma);
+    let bad = plane_bad(c, 0, luma);
     if !chroma_on(c) {
         return bad;
     }
-    bad | (plane_bad_16(c, 1, u) | plane_bad_16(c, 2, v))
+    bad | (plane_bad(c, 1, u) | plane_bad(c, 2, v))
 }
 
-fn luma_found(c: Call, masks: &[u16]) -> Both
+fn plane_found(c: Call, plane: usize, masks: &[u16]) -> Both
     requires { Shaped c × (inside c ≡ true) × ((l : ℕ) × Roomy c l (length masks.now)) }
-    ensures { Found (grid_of c 0) masks.now (call_pass c) (sb4 c) c.row result }
+    ensures { Found (grid_of c plane) masks.now (call_pass c) (sb4 c) c.row result }
 {
-    let w4 = luma_units(c.width);
-    let h4 = luma_units(c.height);
+    let grid = Grid {
+        luma: plane == 0,
+        ss_hor: plane_ss_hor(plane == 0, c.layout),
+        ss_ver: plane_ss_ver(plane == 0, c.layout),
+        w4: luma_units(c.width),
+        h4: luma_units(c.height),
+    };
     let sb4 = superblock_units(c.superblock);
     if c.rowwise {
-        return gap::luma_rows(masks, w4, h4, sb4, c.row);
+        return gap::rows(masks, grid, sb4, c.row);
     }
-    gap::luma_columns(masks, w4, h4, sb4, c.row)
-}
-
-fn chroma_found(c: Call, masks: &[u16]) -> Both
-    requires { Shaped c × (inside c ≡ true) × ((l : ℕ) × Roomy c l (length masks.now)) }
-    ensures { Found (grid_of c 1) masks.now (call_pass c) (sb4 c) c.row result }
-{
-    let w4 = luma_units(c.width);
-    let h4 = luma_units(c.height);
-    let sb4 = superblock_units(c.superblock);
-    let ss_hor = units::layout::ss_hor(c.layout);
-    let ss_ver = units::layout::ss_ver(c.layout);
-    if c.rowwise {
-        return gap::chroma_rows(masks, w4, h4, ss_hor, ss_ver, sb4, c.row);
-    }
-    gap::chroma_columns(masks, w4, h4, ss_hor, ss_ver, sb4, c.row)
+    gap::columns(masks, grid, sb4, c.row)
 }
 
 pub fn found(c: Call, masks: &[u16]) -> Both
     requires { Shaped c × (inside c ≡ true) × ((l : ℕ) × Roomy c l (length masks.now)) }
     ensures { (result.gap ≡ gap_bad c masks.now) × (result.out ≡ mask_bad c masks.now) }
 {
-    let a = luma_found(c, masks);
+    let luma = plane_found(c, 0, masks);
     if !chroma_on(c) {
-        return a;
+        return luma;
     }
-    let b = chroma_found(c, masks);
-    Both {
-        gap: a.gap | b.gap,
-        out: a.out | b.out,
-    }
+    luma | plane_found(c, 1, masks)
 }

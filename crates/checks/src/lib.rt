@@ -4,18 +4,15 @@
 pub mod faults;
 
 ghost use Rattle.std.specs.Prelude.{◌≡◌, ℕ, length};
+ghost use Rattle.refusals.specs.Numbers.{answered};
 ghost use Rattle.checks.specs.Call.{lent, Shaped, Roomy};
 ghost use Rattle.checks.specs.Promises.{Numbers};
 ghost use Rattle.checks.specs.Tests.{given, marked, number};
 
-use faults::{
-    depth_bad, found, inside, length_bad, level_bad, levels_bad, planes_bad_8, planes_bad_16,
-    shape_bad,
-};
+use faults::{depth_bad, found, inside, length_bad, level_bad, levels_bad, planes_bad, shape_bad};
+use plane::Pixel;
+use refusals::Refusal;
 use units::Sample;
-use units::numbers::{
-    DEPTH, DONE, GAP, LENGTH, LEVEL, LEVEL_BYTE, MASK_BIT, OUTSIDE, PLANE, SHAPE,
-};
 
 // One pass of superblock row `row`: by rows or by columns. level_u and level_v are chroma's base levels; luma_stride and chroma_stride are in samples,
 // level_stride is that of the level bytes, in units.
@@ -36,68 +33,58 @@ pub struct Call {
 }
 
 // Numbers 2 to 8.
-fn given(c: Call, levels: &[u8], masks: usize) -> u32
-    ensures { result ≡ given c levels.now masks }
+fn given(c: Call, levels: &[u8], masks: usize) -> Result<(), Refusal>
+    ensures { answered result ≡ given c levels.now masks }
 {
     if level_bad(c) {
-        return LEVEL;
+        return Err(Refusal::Level);
     }
     if depth_bad(c) {
-        return DEPTH;
+        return Err(Refusal::Depth);
     }
     if shape_bad(c) {
-        return SHAPE;
+        return Err(Refusal::Shape);
     }
     if length_bad(c, levels.len(), masks) {
-        return LENGTH;
+        return Err(Refusal::Length);
     }
     if levels_bad(c, levels) {
-        return LEVEL_BYTE;
+        return Err(Refusal::LevelByte);
     }
-    DONE
+    Ok(())
 }
 
 // Numbers 10 to 12.
-fn marked(c: Call, masks: &[u16]) -> u32
+fn marked(c: Call, masks: &[u16]) -> Result<(), Refusal>
     requires { Shaped c × ((l : ℕ) × Roomy c l (length masks.now)) }
-    ensures { result ≡ marked c masks.now }
+    ensures { answered result ≡ marked c masks.now }
 {
     if !inside(c) {
-        return OUTSIDE;
+        return Err(Refusal::Outside);
     }
     let f = found(c, masks);
     if f.gap {
-        return GAP;
+        return Err(Refusal::Gap);
     }
     if f.out {
-        return MASK_BIT;
+        return Err(Refusal::MaskBit);
     }
-    DONE
+    Ok(())
 }
 
-pub fn number_8(c: Call, luma: &[u8], u: &[u8], v: &[u8], levels: &[u8], masks: &[u16]) -> u32
-    requires { c.depth ≡ 8 }
-    ensures { result ≡ number c (lent luma.now u.now v.now levels.now masks.now) }
+pub fn check<P: Pixel>(
+    c: Call,
+    luma: &[P],
+    u: &[P],
+    v: &[P],
+    levels: &[u8],
+    masks: &[u16],
+) -> Result<(), Refusal>
+    ensures { answered result ≡ number c (lent (P.samples luma.now) (P.samples u.now) (P.samples v.now) levels.now masks.now) }
 {
-    let n = given(c, levels, masks.len());
-    if n != 0 {
-        return n;
-    }
-    if planes_bad_8(c, luma, u, v) {
-        return PLANE;
-    }
-    marked(c, masks)
-}
-
-pub fn number_16(c: Call, luma: &[u16], u: &[u16], v: &[u16], levels: &[u8], masks: &[u16]) -> u32
-    ensures { result ≡ number c (lent luma.now u.now v.now levels.now masks.now) }
-{
-    let n = given(c, levels, masks.len());
-    if n != 0 {
-        return n;
-    }
-    if planes_bad_16(c, luma, u, v) {
-        return PLANE;
+    given(c, levels, masks.len())?;
+    if planes_bad(c, luma, u, v) {
+        return Err(Refusal::Plane);
     }
     marked(c, masks)
 }

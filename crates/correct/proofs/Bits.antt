@@ -13,10 +13,10 @@ use borrow.Author.Tests.{eq-eqb, ne_eqb}
 use Rattle.loops.specs.Any.{any_below}
 use Rattle.loops.specs.Run.{up_to}
 use Rattle.loops.proofs.Anys.{any-true, any_false}
+use mir.Val.{bool_byte}
 use Rattle.bits.specs.Mark.{is_set, unmark}
 use Rattle.bits.proofs.Marks.{length-mark, is_set-mark, length-unmark, is_set-unmark}
 use Rattle.correct.specs.Correct.{old_class, cleared, corrected}
-use Rattle.correct.proofs.Steps.{old-lt}
 
 -- how many classes luma and chroma have, and one more of luma
 abbrev classes_of : Bool → ℕ
@@ -25,6 +25,14 @@ classes_of luma = cond luma 3 2
 some-classes : (luma : Bool) (c : ℕ) → c < classes_of luma → c < cond luma 4 2
 some-classes true c h = omega arith
 some-classes false c h = h
+
+flag-le : (b : Bool) → bool_byte b ≤ 1
+flag-le true = omega arith
+flag-le false = omega arith
+
+old-lt : (luma : Bool) (set : ℕ → Bool) → old_class luma set < cond luma 4 2
+old-lt true set = omega (arith, flag-le (set 1), flag-le (set 2))
+old-lt false set = omega (arith, flag-le (set 1))
 
 -- the old class looks at the plane's own classes
 pub old-same : (luma : Bool) (f g : ℕ → Bool) → ((c : ℕ) → c < classes_of luma → f c ≡ g c) → old_class luma f ≡ old_class luma g

@@ -11,8 +11,7 @@ use Rattle.plane.specs.Line.{Pass, other, pass_of}
 use Rattle.units.specs.Frame.{records, frame_records}
 use Rattle.edges.specs.Edges.{Grid, units_of, edge_bit}
 use Rattle.edges.proofs.Bits.{class-apart}
-use Rattle.edges.specs.Bit.{Near}
-use Rattle.edges.proofs.EdgeBits.{unit-near, class-bit-in}
+use Rattle.edges.proofs.EdgeBits.{class-bit-in}
 use Rattle.correct.specs.declared.TileEdge.{TileEdge}
 use Rattle.correct.specs.Correct.{corrected, correct_line, grid_in, Room, Fits}
 
@@ -24,9 +23,6 @@ records-le w h p q = prod-le (records w) (records h) 128 128 (omega arith) (omeg
 module _ (l : TileEdge) (masks context : ℕ) (f : Fits l masks context) (i : ℕ) (h : i < l.n) where
   along-in : l.first + i < units_of (grid_in l) (other (pass_of l.rowwise))
   along-in = omega (arith, f.end-in)
-
-  pub near : Near l.ss_hor l.ss_ver l.w4.0 l.across (l.first + i)
-  near = unit-near (grid_in l) f.proper f.width f.height (pass_of l.rowwise) (l.across, l.first + i) f.across-in along-in
 
   bit-lt : (c : ℕ) → c < cond l.luma 4 2
       → edge_bit (grid_in l) (pass_of l.rowwise) (l.across, l.first + i) 0 + 32 * c < 10240 * frame_records l.w4.0 l.h4.0

@@ -1,5 +1,5 @@
 -- A tile's start as the code finds it: its units lie in the frame, since its superblocks do, in luma and in chroma and in each pass.
-use mathlib.Core.Path.{◌≡◌, refl, sym, ap, ◌∙◌}
+use mathlib.Core.Path.{◌≡◌, refl, ap}
 use mathlib.Core.Bool.{Bool, true, false, cond, not, ◌&&◌, ◌||◌, and-eq-true_iff}
 use mathlib.Core.Logic.{◌⊎◌, inl, inr, ⊎_elim}
 use Prim.Native.Nat.{ℕ, ◌+◌, ◌*◌, ◌/◌, ◌≤◌, ◌<◌, min}
@@ -13,10 +13,9 @@ use Rattle.units.specs.Frame.{frame_ok, superblock_ok, superblocks}
 use Rattle.units.proofs.Places.{ss-hor-le, ss-ver-le, chroma-unit-in, superblock-in}
 use Rattle.units.proofs.Tests.{reflects-frame, reflects-superblock}
 use Rattle.loops.proofs.Bools.{or_off}
-use Rattle.edges.specs.Edges.{Proper, ss_of}
-use Rattle.plane.specs.Line.{pass_of}
+use Rattle.edges.specs.Edges.{Proper}
 use Rattle.correct.specs.declared.Start.{Start}
-use Rattle.correct.specs.Start.{w4, h4, sb4, grid_at, begin, across, first, end, inside, corrects, Shaped, Inside}
+use Rattle.correct.specs.Start.{w4, h4, sb4, grid_at, begin, first, end, inside, corrects, Shaped, Inside}
 use Rattle.correct.specs.Tests.{shape_bad}
 
 -- ---- the plane
@@ -74,24 +73,8 @@ corrects-inside t luma s e =
 -- ---- units
 
 module _ (t : Start) (luma : Bool) (i : Inside t) where
-  pub begin-small : begin t * sb4 t < 4096
-  begin-small = go t.rowwise
-    where
-      go : (b : Bool) → cond b t.row t.start * sb4 t < 4096
-      go true = omega (arith, i.row_in, i.height)
-      go false = omega (arith, i.start-in, i.width)
-
-  pub row_small : t.row < 4096
-  row_small =
-      let l = i.row_in in
-      let h = i.height in
-      ⊎_elim (λ e. omega (arith, ap (λ (s : ℕ). t.row * s) e)) (λ e. omega (arith, ap (λ (s : ℕ). t.row * s) e)) i.size
-
   next_row : (t.row + 1) * sb4 t ≡ t.row * sb4 t + sb4 t
   next_row = omega (arith, add-mul t.row 1 (sb4 t))
-
-  pub end-small : (t.row + 1) * sb4 t ≤ 4128
-  end-small = omega (arith, next_row, i.row_in, i.height, sb4-in t i.size)
 
   row_lt : t.row * sb4 t < min (h4 t) ((t.row + 1) * sb4 t)
   row_lt = omega (arith, next_row, i.row_in, sb4-in t i.size)
@@ -104,38 +87,3 @@ module _ (t : Start) (luma : Bool) (i : Inside t) where
       go true = omega arith
       go false =
           omega (arith, chroma-unit-in (t.row * sb4 t) (min (h4 t) ((t.row + 1) * sb4 t)) (grid_at t luma).ss-ver row_lt (proper t luma).ss-ver-le)
-
--- ---- what the code's calls give
-
-module _ (t : Start) (luma : Bool) where
-  pub across-is : (r ss k s : ℕ) → ss ≡ ss_of (grid_at t luma) (pass_of t.rowwise) → k ≡ begin t → s ≡ sb4 t → r ≡ chroma_unit ss (k * s) → r ≡ across t luma
-  across-is r ss k s p q e z = z ∙ rw (p, q, e) refl
-
-  pub across-row : (ss : ℕ) → t.rowwise ≡ true → ss ≡ (grid_at t luma).ss-ver → ss ≡ ss_of (grid_at t luma) (pass_of t.rowwise)
-  across-row ss e p = p ∙ ap (λ (b : Bool). ss_of (grid_at t luma) (pass_of b)) (sym e)
-
-  pub across-column : (ss : ℕ) → t.rowwise ≡ false → ss ≡ (grid_at t luma).ss-hor → ss ≡ ss_of (grid_at t luma) (pass_of t.rowwise)
-  across-column ss e p = p ∙ ap (λ (b : Bool). ss_of (grid_at t luma) (pass_of b)) (sym e)
-
-  -- the first of two ends in the row pass, the second in the column pass
-  row_of : (x y r : ℕ) → t.rowwise ≡ true → r ≡ x → r ≡ cond t.rowwise x y
-  row_of x y r e p = p ∙ ap (λ (b : Bool). cond b x y) (sym e)
-
-  column-of : (x y r : ℕ) → t.rowwise ≡ false → r ≡ y → r ≡ cond t.rowwise x y
-  column-of x y r e p = p ∙ ap (λ (b : Bool). cond b x y) (sym e)
-
-  pub first-row : t.rowwise ≡ true → 0 ≡ first t luma
-  first-row e = row_of 0 (chroma_unit (grid_at t luma).ss-ver (t.row * sb4 t)) 0 e refl
-
-  pub first-column : (r ss s : ℕ) → t.rowwise ≡ false → ss ≡ (grid_at t luma).ss-ver → s ≡ sb4 t → r ≡ chroma_unit ss (t.row * s) → r ≡ first t luma
-  first-column r ss s e p q z = column-of 0 (chroma_unit (grid_at t luma).ss-ver (t.row * sb4 t)) r e (z ∙ rw (p, q) refl)
-
-  pub end_row : (r ss n : ℕ) → t.rowwise ≡ true → ss ≡ (grid_at t luma).ss-hor → n ≡ w4 t → r ≡ chroma_units ss n → r ≡ end t luma
-  end_row r ss n e p q z =
-      row_of (chroma_units (grid_at t luma).ss-hor (w4 t)) (chroma_units (grid_at t luma).ss-ver (min (h4 t) ((t.row + 1) * sb4 t))) r e (z ∙ rw (p, q) refl)
-
-  pub end-column : (r ss m n s : ℕ) → t.rowwise ≡ false → ss ≡ (grid_at t luma).ss-ver → n ≡ h4 t → s ≡ sb4 t → m ≡ min n ((t.row + 1) * s)
-      → r ≡ chroma_units ss m → r ≡ end t luma
-  end-column r ss m n s e p q x y z =
-      column-of (chroma_units (grid_at t luma).ss-hor (w4 t)) (chroma_units (grid_at t luma).ss-ver (min (h4 t) ((t.row + 1) * sb4 t))) r e
-      (z ∙ rw (p, y, q, x) refl)

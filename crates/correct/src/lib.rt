@@ -2,17 +2,18 @@
 #![tactic(auto)]
 
 mod edge;
-mod number;
 mod place;
+mod refusal;
 
 ghost use Rattle.std.specs.Prelude.{◌≡◌, length};
+ghost use Rattle.refusals.specs.Numbers.{answered};
 ghost use Rattle.correct.specs.Correct.{plane_done};
 ghost use Rattle.correct.specs.Answer.{start_of, column_of, row_of, CorrectAnswer, Ready};
 ghost use Rattle.correct.specs.Promises.{Promises};
 
 use edge::correct_line;
-use number::number;
 use place::{corrects, line};
+use refusals::Refusal;
 use units::{LumaUnit, Sample};
 
 // The start of a tile: frame, pass, superblock row, and the superblock of the tile's first column, 0 in the row pass.
@@ -62,8 +63,8 @@ fn correct(
     start: u32,
     context: &[u8],
     context_uv: &[u8],
-) -> u32
-    ensures { CorrectAnswer (start_of rowwise width height layout superblock row start) context.now context_uv.now result
+) -> Result<(), Refusal>
+    ensures { CorrectAnswer (start_of rowwise width height layout superblock row start) context.now context_uv.now (answered result)
         masks.old masks.new }
 {
     let t = Start {
@@ -75,13 +76,10 @@ fn correct(
         row: row as usize,
         start: start as usize,
     };
-    let n = number(t, masks.len(), context, context_uv);
-    if n != 0 {
-        return n;
-    }
+    refusal::check(t, masks.len(), context, context_uv)?;
     correct_plane(masks, t, true, context);
     correct_plane(masks, t, false, context_uv);
-    0
+    Ok(())
 }
 
 // A tile whose first column is superblock `start`, in superblock row `row`; the contexts begin at the row's first unit.
@@ -95,8 +93,8 @@ pub fn correct_column(
     start: u32,
     left: &[u8],
     left_uv: &[u8],
-) -> u32
-    ensures { CorrectAnswer (column_of width height layout superblock row start) left.now left_uv.now result masks.old masks.new }
+) -> Result<(), Refusal>
+    ensures { CorrectAnswer (column_of width height layout superblock row start) left.now left_uv.now (answered result) masks.old masks.new }
 {
     correct(
         masks, false, width, height, layout, superblock, row, start, left, left_uv,
@@ -113,8 +111,8 @@ pub fn correct_row(
     row: u32,
     above: &[u8],
     above_uv: &[u8],
-) -> u32
-    ensures { CorrectAnswer (row_of width height layout superblock row) above.now above_uv.now result masks.old masks.new }
+) -> Result<(), Refusal>
+    ensures { CorrectAnswer (row_of width height layout superblock row) above.now above_uv.now (answered result) masks.old masks.new }
 {
     correct(
         masks, true, width, height, layout, superblock, row, 0, above, above_uv,

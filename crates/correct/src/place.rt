@@ -5,7 +5,7 @@ ghost use Rattle.correct.specs.Start.{begin, across, first, end, line_of, inside
 use crate::{Start, TileEdge};
 use units::frame::{superblock_units, superblocks_along};
 use units::layout::{has_chroma, plane_ss_hor, plane_ss_ver};
-use units::{LumaUnit, chroma_unit, chroma_units, least, luma_units};
+use units::{LumaUnit, chroma_unit, chroma_units, luma_units};
 
 fn begin(t: Start) -> usize
     ensures { result ≡ begin t }
@@ -44,7 +44,7 @@ fn end(t: Start, luma: bool) -> usize
     }
     let y = (t.row + 1) * superblock_units(t.superblock).0;
     chroma_units(
-        LumaUnit(least(luma_units(t.height).0, y)),
+        LumaUnit(luma_units(t.height).0.min(y)),
         plane_ss_ver(luma, t.layout),
     )
     .0

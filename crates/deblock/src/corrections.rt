@@ -1,6 +1,8 @@
 // The correction of masks at a tile's start.
 ghost use Rattle.correct.specs.Answer.{column_of, row_of, CorrectAnswer};
 
+use refusals::answered;
+
 #[unsafe(no_mangle)]
 pub extern "C" fn deblock_correct_column(
     masks: &mut [u16],
@@ -15,9 +17,9 @@ pub extern "C" fn deblock_correct_column(
 ) -> u32
     ensures { CorrectAnswer (column_of width height layout superblock row start) left.now left_uv.now result masks.old masks.new }
 {
-    correct::correct_column(
+    answered(correct::correct_column(
         masks, width, height, layout, superblock, row, start, left, left_uv,
-    )
+    ))
 }
 
 #[unsafe(no_mangle)]
@@ -33,7 +35,7 @@ pub extern "C" fn deblock_correct_row(
 ) -> u32
     ensures { CorrectAnswer (row_of width height layout superblock row) above.now above_uv.now result masks.old masks.new }
 {
-    correct::correct_row(
+    answered(correct::correct_row(
         masks, width, height, layout, superblock, row, above, above_uv,
-    )
+    ))
 }

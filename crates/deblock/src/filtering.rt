@@ -2,6 +2,8 @@
 ghost use Rattle.std.specs.Prelude.{true, false};
 ghost use Rattle.apply.specs.Apply.{call_of, FilterLent};
 
+use refusals::answered;
+
 #[unsafe(no_mangle)]
 pub extern "C" fn deblock_columns_8(
     luma: &mut [u8],
@@ -26,7 +28,7 @@ pub extern "C" fn deblock_columns_8(
         luma.old u.old v.old levels.now masks.now e.now i.now result
         luma.new u.new v.new }
 {
-    apply::columns_8(
+    answered(apply::columns_8(
         luma,
         luma_stride,
         u,
@@ -44,7 +46,7 @@ pub extern "C" fn deblock_columns_8(
         level_u,
         level_v,
         row,
-    )
+    ))
 }
 
 #[unsafe(no_mangle)]
@@ -71,7 +73,7 @@ pub extern "C" fn deblock_rows_8(
         luma.old u.old v.old levels.now masks.now e.now i.now result
         luma.new u.new v.new }
 {
-    apply::rows_8(
+    answered(apply::rows_8(
         luma,
         luma_stride,
         u,
@@ -89,7 +91,7 @@ pub extern "C" fn deblock_rows_8(
         level_u,
         level_v,
         row,
-    )
+    ))
 }
 
 #[unsafe(no_mangle)]
@@ -117,7 +119,7 @@ pub extern "C" fn deblock_columns_16(
         luma.old u.old v.old levels.now masks.now e.now i.now result
         luma.new u.new v.new }
 {
-    apply::columns_16(
+    answered(apply::columns_16(
         luma,
         luma_stride,
         u,
@@ -136,7 +138,7 @@ pub extern "C" fn deblock_columns_16(
         level_u,
         level_v,
         row,
-    )
+    ))
 }
 
 #[unsafe(no_mangle)]
@@ -164,7 +166,7 @@ pub extern "C" fn deblock_rows_16(
         luma.old u.old v.old levels.now masks.now e.now i.now result
         luma.new u.new v.new }
 {
-    apply::rows_16(
+    answered(apply::rows_16(
         luma,
         luma_stride,
         u,
@@ -183,5 +185,5 @@ pub extern "C" fn deblock_rows_16(
         level_u,
         level_v,
         row,
-    )
+    ))
 }

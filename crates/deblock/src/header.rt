@@ -3,6 +3,8 @@ ghost use Rattle.loops.specs.Flag.{on};
 ghost use Rattle.standard.specs.Header.{given};
 ghost use Rattle.params.specs.Calls.{read_of, lent_of, ReadLent, fields_of, WriteLent};
 
+use refusals::answered;
+
 #[unsafe(no_mangle)]
 pub extern "C" fn deblock_read_params(
     bytes: &[u8],
@@ -21,9 +23,9 @@ pub extern "C" fn deblock_read_params(
         (lent_of level.old bits.old update.old ref_delta.old mode_delta.old count.old)
         (lent_of level.new bits.new update.new ref_delta.new mode_delta.new count.new) }
 {
-    params_lent::read_into(
+    answered(params_lent::read_into(
         bytes, at, planes, lossless, intrabc, level, bits, update, ref_delta, mode_delta, count,
-    )
+    ))
 }
 
 #[unsafe(no_mangle)]
@@ -46,7 +48,7 @@ pub extern "C" fn deblock_write_params(
         (fields_of level.now bits.now update.now ref_delta.now mode_delta.now)
         at result bytes.old bytes.new count.old count.new }
 {
-    params_lent::write_from(
+    answered(params_lent::write_from(
         bytes,
         at,
         planes,
@@ -60,5 +62,5 @@ pub extern "C" fn deblock_write_params(
         ref_delta,
         mode_delta,
         count,
-    )
+    ))
 }

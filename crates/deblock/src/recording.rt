@@ -3,6 +3,8 @@ ghost use Rattle.std.specs.Prelude.{[]};
 ghost use Rattle.block.specs.Block.{lent};
 ghost use Rattle.record.specs.Record.{intra_of, inter_of, RecordAnswer};
 
+use refusals::answered;
+
 #[unsafe(no_mangle)]
 pub extern "C" fn deblock_record_intra(
     levels: &mut [u8],
@@ -27,7 +29,7 @@ pub extern "C" fn deblock_record_intra(
         (lent levels.old masks.old above.old left.old above_uv.old left_uv.old)
         (lent levels.new masks.new above.new left.new above_uv.new left_uv.new) }
 {
-    record::record_intra(
+    answered(record::record_intra(
         levels,
         level_stride,
         masks,
@@ -45,7 +47,7 @@ pub extern "C" fn deblock_record_intra(
         uvtx,
         above_uv,
         left_uv,
-    )
+    ))
 }
 
 #[unsafe(no_mangle)]
@@ -76,7 +78,7 @@ pub extern "C" fn deblock_record_inter(
         (lent levels.old masks.old above.old left.old above_uv.old left_uv.old)
         (lent levels.new masks.new above.new left.new above_uv.new left_uv.new) }
 {
-    record::record_inter(
+    answered(record::record_inter(
         levels,
         level_stride,
         masks,
@@ -98,5 +100,5 @@ pub extern "C" fn deblock_record_inter(
         uvtx,
         above_uv,
         left_uv,
-    )
+    ))
 }

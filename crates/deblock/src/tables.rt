@@ -2,6 +2,8 @@
 ghost use Rattle.limits.specs.Limits.{lut, LimitsLent};
 ghost use Rattle.levels.specs.Levels.{levels_in, LevelsAnswer};
 
+use refusals::answered;
+
 #[unsafe(no_mangle)]
 pub extern "C" fn deblock_limits(
     e: &mut [u8; 64],
@@ -11,7 +13,7 @@ pub extern "C" fn deblock_limits(
 ) -> u32
     ensures { LimitsLent sharpness result (lut e.old i.old sharp.old) (lut e.new i.new sharp.new) }
 {
-    limits::limits_into(e, i, sharp, sharpness)
+    answered(limits::limits_into(e, i, sharp, sharpness))
 }
 
 #[unsafe(no_mangle)]
@@ -32,7 +34,7 @@ pub extern "C" fn deblock_levels(
         multi lf_delta.now segmentation seg_delta.now)
         result values.old values.new }
 {
-    levels::levels(
+    answered(levels::levels(
         values,
         layout,
         base,
@@ -43,5 +45,5 @@ pub extern "C" fn deblock_levels(
         lf_delta,
         segmentation,
         seg_delta,
-    )
+    ))
 }

@@ -1,12 +1,14 @@
 -- Runs and rectangles of cells: the turns of the loops that fill them, and what each cell is then, by recursion on the count.
 use mathlib.Core.Path.{◌≡◌, refl, sym, ap, ◌∙◌}
 use mathlib.Core.Logic.{by_cases}
-use mathlib.Core.List.{List}
-use Prim.Native.Nat.{ℕ, zero, suc, ◌+◌, ◌*◌, ◌≤◌, ◌<◌}
+use mathlib.Core.List.{List, ◌∷◌, ◌++◌, append_assoc}
+use Prim.Native.Nat.{ℕ, zero, suc, ◌+◌, ◌-◌, ◌*◌, ◌≤◌, ◌<◌}
 use native.Mathlib.Decide.{ℕ_discrete}
+use native.Mathlib.Nat.{add-zero, add-suc}
 use native.Mathlib.Omega.{arith}
-use lib.ListN.{length, get_or, set, length-set}
-use lib.Seq.{set_comm, get_or-set_same, get_or-set_other}
+use lib.ListN.{length, get_or, set, take, drop, replicate, length-set, length-append, length-replicate, take-append-drop}
+use lib.Seq.{set_comm, get_or-set_same, get_or-set_other, length-take-le, drop-cons, set-append_seam}
+use borrow.Rule.Slice.PartMut.{put_mid, Post-is}
 use Rattle.loops.specs.Run.{up_to}
 use Rattle.loops.proofs.Runs.{up_to-again}
 use Rattle.standard.specs.Sizes.{Tx_Wide, Tx_High}
@@ -21,9 +23,33 @@ pub run_none : (at v : ℕ) (a : List ℕ) → a ≡ run at 0 v a
 unfolding run
 run_none at v a = refl
 
-pub run_step : (at i v : ℕ) (a₀ a : List ℕ) → a ≡ run at i v a₀ → set a (at + i) v ≡ run at (i + 1) v a₀
+run_step : (at i v : ℕ) (a₀ a : List ℕ) → a ≡ run at i v a₀ → set a (at + i) v ≡ run at (i + 1) v a₀
 unfolding run
 run_step at i v a₀ a e = up_to-again (λ i a. set a (at + i) v) i a₀ e refl
+
+one-more : (n v : ℕ) (ys : List ℕ) → replicate n v ++ v ∷ ys ≡ v ∷ (replicate n v ++ ys)
+one-more zero v ys = refl
+one-more (suc n) v ys = ap (λ (l : List ℕ). v ∷ l) (one-more n v ys)
+
+replicated : (at n v : ℕ) (a : List ℕ) → at + n ≤ length a → run at n v a ≡ take at a ++ (replicate n v ++ drop (at + n) a)
+unfolding run
+replicated at zero v a h = rw (add-zero at) (sym (take-append-drop at a))
+replicated at (suc n) v a h =
+    let xs = take at a ++ replicate n v in
+    let y = get_or a (at + n) 0 in
+    let ys = drop (suc (at + n)) a in
+    let lx : length xs ≡ at + n = simp (length-append, length-replicate, length-take-le at a (omega arith)) refl in
+    ap (λ (l : List ℕ). set l (at + n) v)
+    (replicated at n v a (omega arith) ∙ sym (append_assoc (take at a) (replicate n v) (drop (at + n) a)) ∙ ap (λ (l : List ℕ). xs ++ l) (drop-cons a (at + n) 0 (omega arith)))
+    ∙ ap (λ (i : ℕ). set (xs ++ y ∷ ys) i v) (sym lx)
+    ∙ set-append_seam xs y ys v
+    ∙ append_assoc (take at a) (replicate n v) (v ∷ ys)
+    ∙ rw (add-suc at n) (ap (λ (l : List ℕ). take at a ++ l) (one-more n v ys))
+
+-- a part that was filled
+pub run-filled : (at n v : ℕ) (a ys : List ℕ) → at + n ≤ length a → ys ≡ replicate n v → put_mid at (at + n - at) a ys ≡ run at n v a
+run-filled at n v a ys h e =
+    rw e (ap (λ (l : List ℕ). take at a ++ (replicate n v ++ l)) (Post-is at (at + n) a (omega arith)) ∙ sym (replicated at n v a h))
 
 pub fill_none : (at w v : ℕ) (a : List ℕ) → a ≡ fill at w 0 v a
 unfolding fill

@@ -10,19 +10,18 @@ ghost use Rattle.decomp.specs.Promises.{Promises};
 ghost use Rattle.decomp.specs.Folds.{run, fill, put, whole, splits_by, masks_from, decomp, counted, block, Place};
 
 use units::LumaUnit;
-use units::sizes::{luma_class, luma_tx_high, luma_tx_wide, tx_split};
+use units::sizes::{luma_class, tx_high, tx_split, tx_wide};
 
-fn fill_run(txa: &mut [u8], at: usize, n: usize, v: u8)
-    requires { at + n ≤ length txa.old }
+fn fill_run(txa: &mut [u8; 4096], at: usize, n: usize, v: u8)
+    requires { at + n ≤ 4096 }
     ensures { txa.new ≡ run at n v txa.old }
 {
-    for i in 0..n {
-        txa[at + i] = v;
-    }
+    txa[at..at + n].fill(v);
 }
 
-fn fill_cells(txa: &mut [u8], at: usize, w: usize, h: usize, v: u8)
-    requires { (0 < h) × (at + 32 * h + w ≤ length txa.old + 32) }
+#[tactic(auto, using(crate::proofs::Fills::fill_none, crate::proofs::Fills::fill_step))]
+fn fill_cells(txa: &mut [u8; 4096], at: usize, w: usize, h: usize, v: u8)
+    requires { (0 < h) × (at + 32 * h + w ≤ 4128) }
     ensures { txa.new ≡ fill at w h v txa.old }
 {
     for y in 0..h {
@@ -31,8 +30,9 @@ fn fill_cells(txa: &mut [u8], at: usize, w: usize, h: usize, v: u8)
 }
 
 // A run of both tables of classes: side by side, since runs are short.
-fn fill_pair(txa: &mut [u8], at: usize, n: usize, u: u8, v: u8)
-    requires { (n ≤ 32) × (2048 + at + n ≤ length txa.old) }
+#[tactic(auto, using(crate::proofs::Fills::run_none, crate::proofs::Fills::pair_step))]
+fn fill_pair(txa: &mut [u8; 4096], at: usize, n: usize, u: u8, v: u8)
+    requires { (n ≤ 32) × (at + n ≤ 2048) }
     ensures { txa.new ≡ run (2048 + at) n v (run at n u txa.old) }
 {
     for i in 0..n {
@@ -41,8 +41,8 @@ fn fill_pair(txa: &mut [u8], at: usize, n: usize, u: u8, v: u8)
     }
 }
 
-fn fill_classes(txa: &mut [u8], at: usize, w: usize, h: usize, u: u8, v: u8)
-    requires { (length txa.old ≡ 4096) × (0 < h) × (w ≤ 32) × (at + 32 * h + w ≤ 1056) }
+fn fill_classes(txa: &mut [u8; 4096], at: usize, w: usize, h: usize, u: u8, v: u8)
+    requires { (0 < h) × (w ≤ 32) × (at + 32 * h + w ≤ 1056) }
     ensures { txa.new ≡ fill (2048 + at) w h v (fill at w h u txa.old) }
 {
     for y in 0..h {
@@ -50,8 +50,8 @@ fn fill_classes(txa: &mut [u8], at: usize, w: usize, h: usize, u: u8, v: u8)
     }
 }
 
-fn put_cells(txa: &mut [u8], y0: usize, x0: usize, w: usize, h: usize)
-    requires { (length txa.old ≡ 4096) × (0 < w) × (w ≤ 16) × (x0 + w ≤ 32) × (0 < h) × (h ≤ 16) × (y0 + h ≤ 32) }
+fn put_cells(txa: &mut [u8; 4096], y0: usize, x0: usize, w: usize, h: usize)
+    requires { (0 < w) × (w ≤ 16) × (x0 + w ≤ 32) × (0 < h) × (h ≤ 16) × (y0 + h ≤ 32) }
     ensures { txa.new ≡ put y0 x0 w h txa.old }
 {
     let at = y0 * 32 + x0;
@@ -63,12 +63,12 @@ fn put_cells(txa: &mut [u8], y0: usize, x0: usize, w: usize, h: usize)
 }
 
 // A transform that is not split, at row y and column x of those of its size.
-fn put_tx(txa: &mut [u8], tx: usize, y: usize, x: usize)
-    requires { (length txa.old ≡ 4096) × (tx < 19) × (y * Tx_High tx + Tx_High tx ≤ 32) × (x * Tx_Wide tx + Tx_Wide tx ≤ 32) }
+fn put_tx(txa: &mut [u8; 4096], tx: usize, y: usize, x: usize)
+    requires { (tx < 19) × (y * Tx_High tx + Tx_High tx ≤ 32) × (x * Tx_Wide tx + Tx_Wide tx ≤ 32) }
     ensures { txa.new ≡ whole tx y x txa.old }
 {
-    let w = luma_tx_wide(tx).0;
-    let h = luma_tx_high(tx).0;
+    let w = tx_wide::<LumaUnit>(tx).0;
+    let h = tx_high::<LumaUnit>(tx).0;
     put_cells(txa, y * h, x * w, w, h);
 }
 
@@ -88,14 +88,14 @@ fn is_split(from: usize, depth: usize, y: usize, x: usize, tx_masks: &[u16; 2]) 
 
 // The transform at row y_off and column x_off of those of its size; two minus depth falls at each call.
 pub fn decomp_tx(
-    txa: &mut [u8],
+    txa: &mut [u8; 4096],
     from: usize,
     depth: usize,
     y_off: usize,
     x_off: usize,
     tx_masks: &[u16; 2],
 )
-    requires { (length txa.old ≡ 4096) × Place from depth y_off x_off }
+    requires { Place from depth y_off x_off }
     ensures { txa.new ≡ decomp (masks_from depth tx_masks.now) from y_off x_off txa.old }
 {
     if !is_split(from, depth, y_off, x_off, tx_masks) {
@@ -103,8 +103,8 @@ pub fn decomp_tx(
         return;
     }
     let sub = tx_split(from);
-    let w = luma_tx_wide(from).0;
-    let h = luma_tx_high(from).0;
+    let w = tx_wide::<LumaUnit>(from).0;
+    let h = tx_high::<LumaUnit>(from).0;
     let d = depth + 1;
     let y0 = y_off * 2 + 0;
     let y1 = y_off * 2 + 1;
@@ -124,9 +124,8 @@ pub fn decomp_tx(
     decomp_tx(txa, sub, d, y1, x0, tx_masks);
 }
 
-fn decomp_row(txa: &mut [u8], max_tx: usize, y_off: usize, n: usize, tx_masks: &[u16; 2])
-    requires txa_len { length txa.old ≡ 4096 }
-    requires places { (x : ℕ) → x < n → Place max_tx 0 y_off x }
+fn decomp_row(txa: &mut [u8; 4096], max_tx: usize, y_off: usize, n: usize, tx_masks: &[u16; 2])
+    requires { (x : ℕ) → x < n → Place max_tx 0 y_off x }
     ensures { txa.new ≡ up_to (decomp (masks_from 0 tx_masks.now) max_tx y_off) n txa.old }
 {
     for x_off in 0..n {
@@ -143,12 +142,18 @@ fn tx_count(n: usize, side: usize) -> usize
 }
 
 // The maximal transforms of a block of which w4 by h4 units are seen.
-pub fn decomp_block(txa: &mut [u8], max_tx: usize, w4: LumaUnit, h4: LumaUnit, tx_masks: &[u16; 2])
-    requires { (length txa.old ≡ 4096) × Covers max_tx w4.0 h4.0 }
+pub fn decomp_block(
+    txa: &mut [u8; 4096],
+    max_tx: usize,
+    w4: LumaUnit,
+    h4: LumaUnit,
+    tx_masks: &[u16; 2],
+)
+    requires { Covers max_tx w4.0 h4.0 }
     ensures { txa.new ≡ block tx_masks.now max_tx w4.0 h4.0 txa.old }
 {
-    let columns = tx_count(w4.0, luma_tx_wide(max_tx).0);
-    let rows = tx_count(h4.0, luma_tx_high(max_tx).0);
+    let columns = tx_count(w4.0, tx_wide::<LumaUnit>(max_tx).0);
+    let rows = tx_count(h4.0, tx_high::<LumaUnit>(max_tx).0);
     for y_off in 0..rows {
         decomp_row(txa, max_tx, y_off, columns, tx_masks);
     }

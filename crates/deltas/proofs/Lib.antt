@@ -1,3 +1,4 @@
 pub mod Bias
 pub mod Steps
 pub mod Range
+pub mod Anys

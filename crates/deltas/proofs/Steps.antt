@@ -1,7 +1,9 @@
 -- What the functions compute, in the standard's words: the range test, the clip, and a delta that is added once or twice, each by turning integers into differences of naturals.
 use mathlib.Core.Bool.{true, ◌||◌}
+use mathlib.Core.Logic.{by_cases}
 use mathlib.Core.Path.{◌≡◌, refl, ◌∙◌, ap, ap₂}
-use Prim.Native.Nat.{ℕ, ◌+◌, ◌-◌, ◌*◌, ◌/◌, ◌^◌, ◌<◌, ◌≤◌}
+use Prim.Native.Nat.{ℕ, ◌+◌, ◌-◌, ◌*◌, ◌/◌, ◌^◌, ◌<◌, ◌≤◌, min}
+use native.Mathlib.Decide.{dec_lt}
 use native.Mathlib.Nat.{mul-add}
 use native.Mathlib.Omega.{arith}
 use borrow.Author.Tests.{lt-ltb, le-ltb, eq-eqb, ne_eqb}
@@ -26,19 +28,13 @@ outside-biased u n d e =
 
 -- ---- clips to 0..63
 
-pub clip-low : (sum offset : ℕ) → sum < offset → Clip3 (pos 0) (pos 63) (sub_ℕ sum offset) ≡ pos 0
+pub clip-is : (sum offset : ℕ) → Clip3 (pos 0) (pos 63) (sub_ℕ sum offset) ≡ pos (min (sum - offset) 63)
 unfolding Clip3
-clip-low sum offset h = rw (is-neg sum offset (offset - (sum + 1)) (omega arith)) refl
-
-pub clip-high : (sum offset : ℕ) → offset ≤ sum → 63 < sum - offset → Clip3 (pos 0) (pos 63) (sub_ℕ sum offset) ≡ pos 63
-unfolding Clip3
-clip-high sum offset h g =
-    rw (is_pos sum offset (sum - offset) (omega arith), le-ltb (sum - offset) 0 (omega arith), lt-ltb 63 (sum - offset) g) refl
-
-pub clip-mid : (sum offset : ℕ) → offset ≤ sum → sum - offset ≤ 63 → Clip3 (pos 0) (pos 63) (sub_ℕ sum offset) ≡ pos (sum - offset)
-unfolding Clip3
-clip-mid sum offset h g =
-    rw (is_pos sum offset (sum - offset) (omega arith), le-ltb (sum - offset) 0 (omega arith), le-ltb 63 (sum - offset) g) refl
+clip-is sum offset =
+    by_cases (dec_lt sum offset)
+    (λ h. rw (is-neg sum offset (offset - (sum + 1)) (omega arith)) (ap pos (omega arith)))
+    (λ h. rw (is_pos sum offset (sum - offset) (omega arith), le-ltb (sum - offset) 0 (omega arith))
+    (by_cases (dec_lt 63 (sum - offset)) (λ g. rw (lt-ltb 63 (sum - offset) g) (ap pos (omega arith))) (λ g. rw (le-ltb 63 (sum - offset) (omega arith)) (ap pos (omega arith)))))
 
 -- ---- a base with its lf and segment delta
 

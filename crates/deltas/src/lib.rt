@@ -13,7 +13,7 @@ ghost use Rattle.deltas.specs.Deltas.{delta, outside};
 pub fn biased(d: i8) -> u32
     ensures { (sub_ℕ result 128 ≡ d) × (result < 256) }
 {
-    (d as i32 + 128) as u32
+    (i32::from(d) + 128) as u32
 }
 
 pub fn is_outside(d: i8, low: u32) -> bool
@@ -28,34 +28,21 @@ pub fn any_outside(deltas: &[i8], low: u32) -> bool
     requires { low ≤ 128 }
     ensures { result ≡ any_below (length deltas.now) (λ i. outside low (delta deltas.now i)) }
 {
-    let mut i = 0;
-    while i < deltas.len() {
-        if is_outside(deltas[i], low) {
-            return true;
-        }
-        i += 1;
-    }
-    false
+    deltas.iter().any(|&d| is_outside(d, low))
 }
 
 // sum - offset, clipped to 0..63
 fn clip63(sum: u32, offset: u32) -> u32
     ensures { (pos result ≡ Clip3 (pos 0) (pos 63) (sub_ℕ sum offset)) × (result < 64) }
 {
-    if sum < offset {
-        return 0;
-    }
-    if sum - offset > 63 {
-        return 63;
-    }
-    sum - offset
+    sum.saturating_sub(offset).min(63)
 }
 
 pub fn segment_base(level: u8, lf: u32, seg: u32) -> u32
     requires { (lf < 256) × (seg < 256) }
     ensures { (pos result ≡ lvl_seg true (sub_ℕ seg 128) (base_filter_level level (sub_ℕ lf 128))) × (result < 64) }
 {
-    clip63(clip63(level as u32 + lf, 128) + seg, 128)
+    clip63(clip63(u32::from(level) + lf, 128) + seg, 128)
 }
 
 // base plus the delta sum - offset, twice from 32 on

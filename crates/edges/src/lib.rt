@@ -3,34 +3,34 @@
 
 pub mod bit;
 
-ghost use Rattle.std.specs.Prelude.{◌≡◌, ◌+◌, ◌/◌, ◌<◌, length};
-ghost use Rattle.edges.specs.Class.{class_in};
+ghost use Rattle.std.specs.Prelude.{◌≡◌, ◌+◌, ◌/◌, ◌<◌, length, unwrap_or, IfSome};
+ghost use Rattle.edges.specs.Class.{no_class, class_in};
 ghost use Rattle.edges.specs.Promises.{Promises};
 
 use bits::test_bit;
 
-pub const NO_CLASS: u8 = 3;
-
 // e is the bit of class 0.
-pub fn chroma_class(masks: &[u16], e: usize) -> u8
+pub fn chroma_class(masks: &[u16], e: usize) -> Option<u8>
     requires { (e < 1099511627776) × ((e + 32) / 16 < length masks.now) }
-    ensures { result ≡ class_in masks.now 2 e }
+    ensures class { unwrap_or result no_class ≡ class_in masks.now 2 e }
+    ensures low { IfSome result (λ c. c < no_class) }
 {
     if test_bit(masks, e + 32) {
-        return 1;
+        return Some(1);
     }
     if test_bit(masks, e) {
-        return 0;
+        return Some(0);
     }
-    NO_CLASS
+    None
 }
 
-pub fn luma_class(masks: &[u16], e: usize) -> u8
+pub fn luma_class(masks: &[u16], e: usize) -> Option<u8>
     requires { (e < 1099511627776) × ((e + 64) / 16 < length masks.now) }
-    ensures { result ≡ class_in masks.now 3 e }
+    ensures class { unwrap_or result no_class ≡ class_in masks.now 3 e }
+    ensures low { IfSome result (λ c. c < no_class) }
 {
     if test_bit(masks, e + 64) {
-        return 2;
+        return Some(2);
     }
     chroma_class(masks, e)
 }

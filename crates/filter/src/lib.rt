@@ -3,15 +3,19 @@
 #![tactic(auto)]
 
 pub mod lines;
+pub mod tables;
 
-ghost use Rattle.std.specs.Prelude.{◌≡◌, ◌^◌, ◌≤◌, ◌<◌, length};
+ghost use Rattle.std.specs.Prelude.{◌≡◌, ◌<◌, length};
 ghost use Rattle.plane.specs.Line.{pass_of};
 ghost use Rattle.units.specs.Frame.{records};
-ghost use Rattle.filter.specs.Filter.{tables, plane_of, line_of, sweep_of};
-ghost use Rattle.filter.specs.Ready.{Stored, Fit, Under};
+ghost use Rattle.filter.specs.Filter.{plane_of, line_of, sweep_of};
+ghost use Rattle.filter.specs.Ready.{Stored, Fit};
+ghost use Rattle.filter.specs.Types.{tables_of, InDepth, UnderTop};
 ghost use Rattle.filter.specs.Lines.{record_sweep, Inner};
 ghost use Rattle.filter.specs.Promises.{Promises};
 
+use plane::Pixel;
+use tables::Tables;
 use units::LumaUnit;
 
 // One plane of a frame: 0 luma, 1 U, 2 V, with its own subsampling, 0 for luma; its stride in samples, and level_stride, that of the level bytes, in units.
@@ -27,133 +31,45 @@ pub struct Component {
     pub level_stride: usize,
 }
 
-fn line_8(
-    dst: &mut [u8],
+fn line<P: Pixel>(
+    dst: &mut [P],
     c: Component,
+    t: Tables,
     rowwise: bool,
     k: usize,
     rec: usize,
     a: usize,
-    levels: &[u8],
-    masks: &[u16],
-    e: &[u8; 64],
-    i: &[u8; 64],
 )
-    requires { Stored c (tables 8 levels.now masks.now e.now i.now) (length dst.old)
-        × Fit c (tables 8 levels.now masks.now e.now i.now) (pass_of rowwise) k × Inner c (pass_of rowwise) k rec a }
-    ensures { dst.new ≡ line_of (plane_of c (tables 8 levels.now masks.now e.now i.now)) (pass_of rowwise) k rec a dst.old }
+    requires { Stored c (tables_of t) (length (P.samples dst.old)) × Fit c (tables_of t) (pass_of rowwise) k
+        × Inner c (pass_of rowwise) k rec a × InDepth t.depth P.top × UnderTop P.top t.depth c (pass_of rowwise) k (P.samples dst.old) }
+    ensures { (P.samples dst.new ≡ line_of (plane_of c (tables_of t.entry)) (pass_of rowwise) k rec a (P.samples dst.old))
+        × UnderTop P.top t.entry.depth c (pass_of rowwise) k (P.samples dst.new) }
 {
-    let l = lines::line_of(masks, c, rowwise, k, rec, a);
-    walk::walk_8(dst, l, levels, e, i);
+    let l = lines::line_of(t.masks, c, rowwise, k, rec, a);
+    walk::walk(dst, l, t.levels, t.e, t.i, t.depth);
 }
 
-fn record_8(
-    dst: &mut [u8],
-    c: Component,
-    rowwise: bool,
-    k: usize,
-    rec: usize,
-    levels: &[u8],
-    masks: &[u16],
-    e: &[u8; 64],
-    i: &[u8; 64],
-)
-    requires { Stored c (tables 8 levels.now masks.now e.now i.now) (length dst.old)
-        × Fit c (tables 8 levels.now masks.now e.now i.now) (pass_of rowwise) k × (rec < records c.w4.0) }
-    ensures { dst.new ≡ record_sweep (plane_of c (tables 8 levels.now masks.now e.now i.now)) (pass_of rowwise) k rec dst.old }
+fn record<P: Pixel>(dst: &mut [P], c: Component, t: Tables, rowwise: bool, k: usize, rec: usize)
+    requires { Stored c (tables_of t) (length (P.samples dst.old)) × Fit c (tables_of t) (pass_of rowwise) k
+        × (rec < records c.w4.0) × InDepth t.depth P.top × UnderTop P.top t.depth c (pass_of rowwise) k (P.samples dst.old) }
+    ensures { (P.samples dst.new ≡ record_sweep (plane_of c (tables_of t.entry)) (pass_of rowwise) k rec (P.samples dst.old))
+        × UnderTop P.top t.entry.depth c (pass_of rowwise) k (P.samples dst.new) }
 {
     let n = lines::units_across(c, rowwise, k, rec);
     let first = lines::first_unit(rowwise, k, rec);
     for a in first..n {
-        line_8(dst, c, rowwise, k, rec, a, levels, masks, e, i);
+        line(dst, c, t, rowwise, k, rec, a);
     }
 }
 
-pub fn plane_8(
-    dst: &mut [u8],
-    c: Component,
-    rowwise: bool,
-    k: usize,
-    levels: &[u8],
-    masks: &[u16],
-    e: &[u8; 64],
-    i: &[u8; 64],
-)
-    requires { Stored c (tables 8 levels.now masks.now e.now i.now) (length dst.old) × Fit c (tables 8 levels.now masks.now e.now i.now) (pass_of rowwise) k }
-    ensures { dst.new ≡ sweep_of (plane_of c (tables 8 levels.now masks.now e.now i.now)) (pass_of rowwise) k dst.old }
+pub fn sweep<P: Pixel>(dst: &mut [P], c: Component, t: Tables, rowwise: bool, k: usize)
+    requires { Stored c (tables_of t) (length (P.samples dst.old)) × Fit c (tables_of t) (pass_of rowwise) k
+        × InDepth t.depth P.top × UnderTop P.top t.depth c (pass_of rowwise) k (P.samples dst.old) }
+    ensures { P.samples dst.new ≡ sweep_of (plane_of c (tables_of t.entry)) (pass_of rowwise) k (P.samples dst.old) }
 {
     let records = units::frame::records_along(c.w4);
     for rec in 0..records {
-        record_8(dst, c, rowwise, k, rec, levels, masks, e, i);
-    }
-}
-
-fn line_16(
-    dst: &mut [u16],
-    c: Component,
-    rowwise: bool,
-    k: usize,
-    rec: usize,
-    a: usize,
-    levels: &[u8],
-    masks: &[u16],
-    e: &[u8; 64],
-    i: &[u8; 64],
-    depth: u32,
-)
-    requires { Stored c (tables depth levels.now masks.now e.now i.now) (length dst.old)
-        × Fit c (tables depth levels.now masks.now e.now i.now) (pass_of rowwise) k × Inner c (pass_of rowwise) k rec a × (8 ≤ depth) × (depth ≤ 12)
-        × Under (2 ^ depth) c (pass_of rowwise) k dst.old }
-    ensures { (dst.new ≡ line_of (plane_of c (tables depth levels.now masks.now e.now i.now))
-        (pass_of rowwise) k rec a dst.old) × Under (2 ^ depth) c (pass_of rowwise) k dst.new }
-{
-    let l = lines::line_of(masks, c, rowwise, k, rec, a);
-    walk::walk_16(dst, l, levels, e, i, depth);
-}
-
-fn record_16(
-    dst: &mut [u16],
-    c: Component,
-    rowwise: bool,
-    k: usize,
-    rec: usize,
-    levels: &[u8],
-    masks: &[u16],
-    e: &[u8; 64],
-    i: &[u8; 64],
-    depth: u32,
-)
-    requires { Stored c (tables depth levels.now masks.now e.now i.now) (length dst.old)
-        × Fit c (tables depth levels.now masks.now e.now i.now) (pass_of rowwise) k × (rec < records c.w4.0) × (8 ≤ depth) × (depth ≤ 12)
-        × Under (2 ^ depth) c (pass_of rowwise) k dst.old }
-    ensures { (dst.new ≡ record_sweep (plane_of c (tables depth levels.now masks.now e.now i.now))
-        (pass_of rowwise) k rec dst.old) × Under (2 ^ depth) c (pass_of rowwise) k dst.new }
-{
-    let n = lines::units_across(c, rowwise, k, rec);
-    let first = lines::first_unit(rowwise, k, rec);
-    for a in first..n {
-        line_16(dst, c, rowwise, k, rec, a, levels, masks, e, i, depth);
-    }
-}
-
-pub fn plane_16(
-    dst: &mut [u16],
-    c: Component,
-    rowwise: bool,
-    k: usize,
-    levels: &[u8],
-    masks: &[u16],
-    e: &[u8; 64],
-    i: &[u8; 64],
-    depth: u32,
-)
-    requires { Stored c (tables depth levels.now masks.now e.now i.now) (length dst.old)
-        × Fit c (tables depth levels.now masks.now e.now i.now) (pass_of rowwise) k × (8 ≤ depth) × (depth ≤ 12) × Under (2 ^ depth) c (pass_of rowwise) k dst.old }
-    ensures { dst.new ≡ sweep_of (plane_of c (tables depth levels.now masks.now e.now i.now)) (pass_of rowwise) k dst.old }
-{
-    let records = units::frame::records_along(c.w4);
-    for rec in 0..records {
-        record_16(dst, c, rowwise, k, rec, levels, masks, e, i, depth);
+        record(dst, c, t, rowwise, k, rec);
     }
 }
 

@@ -87,12 +87,6 @@ fn mask_at(
     start + unit_words(luma) * unit
 }
 
-fn as_u32(m: u16) -> u32
-    ensures { result ≡ m }
-{
-    m as u32
-}
-
 fn halves_at(masks: &[u16], at: usize, first: usize, n: usize, h: usize) -> u32
     requires { (at + 1 < length masks.now) × (first ≤ 1) × (h ≤ 16) }
     ensures { result ≡ halves_at masks.now at first n h }
@@ -100,7 +94,7 @@ fn halves_at(masks: &[u16], at: usize, first: usize, n: usize, h: usize) -> u32
     if n == 2 {
         return two_halves(masks[at], masks[at + 1], h);
     }
-    as_u32(masks[at + first])
+    u32::from(masks[at + first])
 }
 
 fn class_at(
@@ -202,7 +196,7 @@ pub fn line_of(
 fn after_start(n: usize) -> usize
     ensures { result ≡ cond (eqb n 0) 1 0 }
 {
-    if n == 0 { 1 } else { 0 }
+    usize::from(n == 0)
 }
 
 pub fn first_unit(rowwise: bool, k: usize, rec: usize) -> usize

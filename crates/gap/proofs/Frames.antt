@@ -1,6 +1,6 @@
 -- The numbers that the code forms of the frame fit, and the masks hold what they name: products of bounds, and records within the frame's.
 use mathlib.Core.Path.{◌≡◌, sym, ap, ◌∙◌}
-use mathlib.Core.Bool.{Bool, true, false, false≢true}
+use mathlib.Core.Bool.{Bool, true, false}
 use mathlib.Core.List.{List}
 use Prim.Native.Nat.{ℕ, ◌+◌, ◌-◌, ◌*◌, ◌/◌, ◌^◌, ◌≤◌, ◌<◌, min}
 use native.Mathlib.Nat.{add-mul, mul_comm, mul-le-mul_right, zero-mul, zero-add}
@@ -11,18 +11,11 @@ use Rattle.units.specs.Frame.{records}
 use Rattle.units.specs.Masks.{unit_words, pass_start, record_row}
 use Rattle.units.proofs.Places.{pass-in}
 use Rattle.gap.specs.declared.track.Track.{Track}
-use Rattle.edges.specs.Edges.{chroma_grid, Proper}
 use Rattle.gap.specs.Fits.{MasksFit}
 use Rattle.gap.specs.Track.{class_word, start_t, part_t, track, column_words, row_words}
 use Rattle.gap.proofs.StoredWords.{fewer-units}
 use Rattle.gap.proofs.Shapes.{halves, RowLines, row-lines, RowHalves, row-halves}
 use Rattle.gap.proofs.Walks.{part-track}
-
--- ---- planes
-
-pub proper-chroma : (ss-hor ss-ver w4 h4 : ℕ) → ss-hor ≤ 1 → ss-ver ≤ 1 → Proper (chroma_grid ss-hor ss-ver w4 h4)
-proper-chroma ss-hor ss-ver w4 h4 p q =
-    record { ss-hor-le = p; ss-ver-le = q; luma-x = λ e. absurd (false≢true e); luma-y = λ e. absurd (false≢true e) }
 
 -- ---- bounds
 

@@ -1,3 +1,5 @@
+-- A plane of units
+pub mod Grid
 -- Document 01, numbers 11 and 12.
 pub mod Line
 pub mod Lines

@@ -1,20 +1,23 @@
 // Numbers 11 and 12: the gap rule and stray mask bits, 32 lines of units at once.
 #![tactic(auto)]
 
+pub mod grid;
 pub mod lines;
 pub mod track;
 
-ghost use Rattle.std.specs.Prelude.{◌≡◌, ◌⊎◌, ◌+◌, ◌*◌, ◌/◌, ◌^◌, ◌≤◌, ◌<◌, length};
+ghost use Rattle.std.specs.Prelude.{◌≡◌, ◌⊎◌, ◌||◌, ◌+◌, ◌*◌, ◌/◌, ◌^◌, ◌≤◌, ◌<◌, length};
 ghost use Rattle.plane.specs.Line.{columns, rows};
 ghost use Rattle.units.specs.Frame.{records};
 ghost use Rattle.units.specs.Masks.{unit_words, record_row};
-ghost use Rattle.edges.specs.Edges.{grid_of, luma_grid, chroma_grid, Proper};
 ghost use Rattle.gap.specs.Fits.{MasksFit};
+ghost use Rattle.gap.specs.Grid.{grid_of};
 ghost use Rattle.gap.specs.Lines.{row_lines, record_lines};
 ghost use Rattle.gap.specs.Numbers.{Found, RecordFound};
 ghost use Rattle.gap.specs.Promises.{Promises};
 ghost use Rattle.gap.specs.Track.{track, column_words, column_track, row_track, Answers};
 
+use grid::Grid;
+use std::ops::BitOr;
 use track::Track;
 use units::LumaUnit;
 use units::masks::{
@@ -22,10 +25,23 @@ use units::masks::{
 };
 
 // Numbers 11 and 12.
-#[derive(Clone, Copy)]
+#[derive(Clone, Copy, Default)]
 pub struct Both {
     pub gap: bool,
     pub out: bool,
+}
+
+impl BitOr for Both {
+    type Output = Both;
+
+    ghost bitor_gives = { λ a b r. (r.gap ≡ (a.gap || b.gap)) × (r.out ≡ (a.out || b.out)) };
+
+    fn bitor(self, other: Both) -> Both {
+        Both {
+            gap: self.gap | other.gap,
+            out: self.out | other.out,
+        }
+    }
 }
 
 fn answer(t: Track, live: u32) -> Both
@@ -61,167 +77,76 @@ fn columns_walk(
 }
 
 // The walk along the record row of superblock row k, of the row's own halves.
-fn columns_track(
-    masks: &[u16],
-    luma: bool,
-    ss: usize,
-    w4: LumaUnit,
-    sb4: LumaUnit,
-    k: usize,
-) -> Track
-    requires { (640 * ((record_row sb4.0 k + 1) * records w4.0) ≤ length masks.now) × (k * sb4.0 < 4096) × (ss ≤ 1) × (w4.0 ≤ 4096) }
-    ensures { result ≡ column_track masks.now luma ss w4.0 sb4.0 k }
+fn columns_track(masks: &[u16], g: Grid, sb4: LumaUnit, k: usize) -> Track
+    requires { MasksFit (length masks.now) g.w4.0 g.h4.0 sb4.0 k }
+    ensures { result ≡ column_track masks.now g.luma g.ss_hor g.w4.0 sb4.0 k }
 {
-    let records = units::frame::records_along(w4);
-    let width = units::chroma_units(w4, ss);
-    let at = record_start(luma, false, record_row(sb4, k) * records);
+    let records = units::frame::records_along(g.w4);
+    let width = units::chroma_units(g.w4, g.ss_hor);
+    let at = record_start(g.luma, false, record_row(sb4, k) * records);
     let base = at + first_half(sb4, k);
-    columns_walk(masks, luma, sb4.0 / 16, base, ss, width.0, records)
+    columns_walk(masks, g.luma, sb4.0 / 16, base, g.ss_hor, width.0, records)
 }
 
 // The bits of the lines of superblock row k.
-fn row_lines(ss: usize, h4: LumaUnit, sb4: LumaUnit, k: usize) -> u32
-    requires { (ss ≤ 1) × (h4.0 ≤ 4096) × (k * sb4.0 < h4.0) × ((sb4.0 ≡ 16) ⊎ (sb4.0 ≡ 32)) }
-    ensures { result ≡ row_lines ss h4.0 sb4.0 k }
+fn row_lines(g: Grid, sb4: LumaUnit, k: usize) -> u32
+    requires { (g.h4.0 ≤ 4096) × (k * sb4.0 < g.h4.0) × ((sb4.0 ≡ 16) ⊎ (sb4.0 ≡ 32)) }
+    ensures { result ≡ row_lines g.ss_ver g.h4.0 sb4.0 k }
 {
-    lines::line_word(half_units(ss), row_units(ss, h4, sb4, k))
+    lines::line_word(half_units(g.ss_ver), row_units(g.ss_ver, g.h4, sb4, k))
 }
 
-fn columns(
-    masks: &[u16],
-    luma: bool,
-    ss_hor: usize,
-    ss_ver: usize,
-    w4: LumaUnit,
-    h4: LumaUnit,
-    sb4: LumaUnit,
-    k: usize,
-) -> Both
-    requires { MasksFit (length masks.now) w4.0 h4.0 sb4.0 k × Proper (grid_of luma ss_hor ss_ver w4.0 h4.0) }
-    ensures { Found (grid_of luma ss_hor ss_ver w4.0 h4.0) masks.now columns sb4.0 k result }
+pub fn columns(masks: &[u16], g: Grid, sb4: LumaUnit, k: usize) -> Both
+    requires { MasksFit (length masks.now) g.w4.0 g.h4.0 sb4.0 k }
+    ensures { Found (grid_of g) masks.now columns sb4.0 k result }
 {
-    let t = columns_track(masks, luma, ss_hor, w4, sb4, k);
-    let live = row_lines(ss_ver, h4, sb4, k);
+    let t = columns_track(masks, g, sb4, k);
+    let live = row_lines(g, sb4, k);
     answer(t, live)
 }
 
 // The walk down superblock row k in record rec.
-fn rows_track(
-    masks: &[u16],
-    luma: bool,
-    ss: usize,
-    w4: LumaUnit,
-    h4: LumaUnit,
-    sb4: LumaUnit,
-    k: usize,
-    rec: usize,
-) -> Track
-    requires { MasksFit (length masks.now) w4.0 h4.0 sb4.0 k × (ss ≤ 1) × (rec < records w4.0) }
-    ensures { result ≡ row_track masks.now luma ss w4.0 h4.0 sb4.0 k rec }
+fn rows_track(masks: &[u16], g: Grid, sb4: LumaUnit, k: usize, rec: usize) -> Track
+    requires { MasksFit (length masks.now) g.w4.0 g.h4.0 sb4.0 k × (rec < records g.w4.0) }
+    ensures { result ≡ row_track masks.now g.luma g.ss_ver g.w4.0 g.h4.0 sb4.0 k rec }
 {
-    let records = units::frame::records_along(w4);
-    let at = record_start(luma, true, record_row(sb4, k) * records + rec);
-    let first = first_line(ss, sb4, k);
-    let n = row_units(ss, h4, sb4, k);
-    let sb = units::chroma_unit(sb4, ss);
-    track::part(masks, luma, 2, at, first, n, sb.0, track::start())
+    let records = units::frame::records_along(g.w4);
+    let at = record_start(g.luma, true, record_row(sb4, k) * records + rec);
+    let first = first_line(g.ss_ver, sb4, k);
+    let n = row_units(g.ss_ver, g.h4, sb4, k);
+    let sb = units::chroma_unit(sb4, g.ss_ver);
+    track::part(masks, g.luma, 2, at, first, n, sb.0, track::start())
 }
 
 // The bits of the lines of record rec.
-fn record_lines(ss: usize, w4: LumaUnit, rec: usize) -> u32
-    requires { (ss ≤ 1) × (w4.0 ≤ 4096) × (rec < records w4.0) }
-    ensures { result ≡ record_lines ss w4.0 rec }
+fn record_lines(g: Grid, rec: usize) -> u32
+    requires { (g.w4.0 ≤ 4096) × (rec < records g.w4.0) }
+    ensures { result ≡ record_lines g.ss_hor g.w4.0 rec }
 {
-    let width = units::chroma_units(w4, ss);
-    let n = in_record(32 >> ss, width.0, rec);
-    lines::line_word(half_units(ss), n)
+    let width = units::chroma_units(g.w4, g.ss_hor);
+    let n = in_record(32 >> g.ss_hor, width.0, rec);
+    lines::line_word(half_units(g.ss_hor), n)
 }
 
-fn rows_record(
-    masks: &[u16],
-    luma: bool,
-    ss_hor: usize,
-    ss_ver: usize,
-    w4: LumaUnit,
-    h4: LumaUnit,
-    sb4: LumaUnit,
-    k: usize,
-    rec: usize,
-) -> Both
-    requires { MasksFit (length masks.now) w4.0 h4.0 sb4.0 k × Proper (grid_of luma ss_hor ss_ver w4.0 h4.0) × (rec < records w4.0) }
-    ensures { RecordFound (grid_of luma ss_hor ss_ver w4.0 h4.0) masks.now sb4.0 k rec result }
+fn rows_record(masks: &[u16], g: Grid, sb4: LumaUnit, k: usize, rec: usize) -> Both
+    requires { MasksFit (length masks.now) g.w4.0 g.h4.0 sb4.0 k × (rec < records g.w4.0) }
+    ensures { RecordFound (grid_of g) masks.now sb4.0 k rec result }
 {
-    let t = rows_track(masks, luma, ss_ver, w4, h4, sb4, k, rec);
-    let live = record_lines(ss_hor, w4, rec);
+    let t = rows_track(masks, g, sb4, k, rec);
+    let live = record_lines(g, rec);
     answer(t, live)
 }
 
-fn rows(
-    masks: &[u16],
-    luma: bool,
-    ss_hor: usize,
-    ss_ver: usize,
-    w4: LumaUnit,
-    h4: LumaUnit,
-    sb4: LumaUnit,
-    k: usize,
-) -> Both
-    requires { MasksFit (length masks.now) w4.0 h4.0 sb4.0 k × Proper (grid_of luma ss_hor ss_ver w4.0 h4.0) }
-    ensures { Found (grid_of luma ss_hor ss_ver w4.0 h4.0) masks.now rows sb4.0 k result }
+pub fn rows(masks: &[u16], g: Grid, sb4: LumaUnit, k: usize) -> Both
+    requires { MasksFit (length masks.now) g.w4.0 g.h4.0 sb4.0 k }
+    ensures { Found (grid_of g) masks.now rows sb4.0 k result }
 {
-    let records = units::frame::records_along(w4);
-    let mut gap = false;
-    let mut out = false;
+    let records = units::frame::records_along(g.w4);
+    let mut found = Both::default();
     for rec in 0..records {
-        let r = rows_record(masks, luma, ss_hor, ss_ver, w4, h4, sb4, k, rec);
-        gap = gap | r.gap;
-        out = out | r.out;
+        found = found | rows_record(masks, g, sb4, k, rec);
     }
-    Both { gap, out }
-}
-
-pub fn luma_columns(masks: &[u16], w4: LumaUnit, h4: LumaUnit, sb4: LumaUnit, k: usize) -> Both
-    requires { MasksFit (length masks.now) w4.0 h4.0 sb4.0 k }
-    ensures { Found (luma_grid w4.0 h4.0) masks.now columns sb4.0 k result }
-{
-    columns(masks, true, 0, 0, w4, h4, sb4, k)
-}
-
-pub fn luma_rows(masks: &[u16], w4: LumaUnit, h4: LumaUnit, sb4: LumaUnit, k: usize) -> Both
-    requires { MasksFit (length masks.now) w4.0 h4.0 sb4.0 k }
-    ensures { Found (luma_grid w4.0 h4.0) masks.now rows sb4.0 k result }
-{
-    rows(masks, true, 0, 0, w4, h4, sb4, k)
-}
-
-pub fn chroma_columns(
-    masks: &[u16],
-    w4: LumaUnit,
-    h4: LumaUnit,
-    ss_hor: usize,
-    ss_ver: usize,
-    sb4: LumaUnit,
-    k: usize,
-) -> Both
-    requires { MasksFit (length masks.now) w4.0 h4.0 sb4.0 k × (ss_hor ≤ 1) × (ss_ver ≤ 1) }
-    ensures { Found (chroma_grid ss_hor ss_ver w4.0 h4.0) masks.now columns sb4.0 k result }
-{
-    columns(masks, false, ss_hor, ss_ver, w4, h4, sb4, k)
-}
-
-pub fn chroma_rows(
-    masks: &[u16],
-    w4: LumaUnit,
-    h4: LumaUnit,
-    ss_hor: usize,
-    ss_ver: usize,
-    sb4: LumaUnit,
-    k: usize,
-) -> Both
-    requires { MasksFit (length masks.now) w4.0 h4.0 sb4.0 k × (ss_hor ≤ 1) × (ss_ver ≤ 1) }
-    ensures { Found (chroma_grid ss_hor ss_ver w4.0 h4.0) masks.now rows sb4.0 k result }
-{
-    rows(masks, false, ss_hor, ss_ver, w4, h4, sb4, k)
+    found
 }
 
 // What the numbers mean.

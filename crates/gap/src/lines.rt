@@ -3,7 +3,6 @@ ghost use Rattle.std.specs.Prelude.{◌≡◌, ◌-◌, ◌*◌, ◌^◌, ◌≤
 ghost use Rattle.gap.specs.Lines.{line_word};
 
 use units::masks::two_halves;
-use units::{least, over};
 
 fn half_word(n: usize) -> u16
     requires { n ≤ 16 }
@@ -17,5 +16,5 @@ pub fn line_word(h: usize, n: usize) -> u32
     requires { (h ≤ 16) × (n ≤ 2 * h) }
     ensures { result ≡ line_word h n }
 {
-    two_halves(half_word(least(n, h)), half_word(over(n, h)), 16)
+    two_halves(half_word(n.min(h)), half_word(n.saturating_sub(h)), 16)
 }

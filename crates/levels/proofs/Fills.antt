@@ -1,11 +1,13 @@
 -- Runs of stores by recursion on their length: a loop's turn, and a run that goes on where a tabulated front ends.
-use mathlib.Core.List.{List, ◌++◌}
+use mathlib.Core.List.{List, [], ◌++◌}
 use mathlib.Core.Path.{◌≡◌, refl, sym, ap, ap₂, ◌∙◌}
 use Prim.Native.Nat.{ℕ, zero, suc, ◌+◌, ◌<◌, ◌≤◌}
 use native.Mathlib.Nat.{add-zero, add-suc, le_refl}
 use native.Mathlib.Numerals.{add-one}
 use native.Mathlib.Omega.{arith}
-use lib.ListN.{length, set, drop}
+use lib.ListN.{length, set, drop, replicate}
+use Rattle.std.proofs.Math.Seq.{paste}
+use Rattle.std.proofs.lemmas.List.Edits.{paste_none, fill_from_more}
 use Rattle.loops.specs.Table.{tabulate}
 use Rattle.loops.proofs.Runs.{up_to-again}
 use Rattle.loops.proofs.Tables.{fill-next}
@@ -28,3 +30,13 @@ stores-fill f g a (suc n) v h e =
     ap₂ (λ (t : List ℕ) (x : ℕ). set t (a + n) x) (stores-fill f g a n v (omega arith) (λ j k. e j (omega arith))) (e n (le_refl (suc n)))
     ∙ fill-next f v (a + n) (omega arith)
     ∙ ap (λ (k : ℕ). tabulate f k ++ drop k v) (add-one (a + n) ∙ sym (add-suc a n))
+
+-- a run of zeros, as the library's fill leaves it
+pub stores-zeros : (a n : ℕ) (l : List ℕ) → a + n ≤ length l → paste l a (replicate n 0) n ≡ stores (λ j. 0) a n l
+unfolding stores
+stores-zeros a zero l h = sym (paste_none l a [])
+stores-zeros a (suc n) l h =
+    let e : suc n ≡ n + 1 = omega arith in
+    ap (λ (k : ℕ). paste l a (replicate k 0) k) e
+    ∙ sym (fill_from_more l a n 0 (omega arith))
+    ∙ ap (λ (t : List ℕ). set t (a + n) 0) (stores-zeros a n l (omega arith))

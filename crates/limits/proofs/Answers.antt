@@ -10,10 +10,9 @@ use lib.Dec.{eqb}
 use lib.ListN.{get_or}
 use Rattle.loops.proofs.Tables.{get_d_tabulate}
 use Rattle.standard.specs.Strength.{limit, blimit}
-use Rattle.limits.specs.Limits.{sharp_cap, table_of, no_table, limits_of, LimitsLent}
+use Rattle.limits.specs.Limits.{LimitAnswer, sharp_cap, table_of, no_table, limits_of, LimitsLent}
 use Rattle.limits.specs.Promises.{Promised, Promises}
 use Rattle.limits.specs.declared.Av1FilterLUT.{Av1FilterLUT}
-use Rattle.limits.specs.declared.LimitAnswer.{LimitAnswer}
 use Rattle.limits.proofs.Lent.{above, within, done, kept}
 
 module _ (s r : ℕ) (before after : Av1FilterLUT) (a : LimitsLent s r before after) where

@@ -4,9 +4,8 @@
 use Rattle.std.specs.Prelude.{List, ◌≡◌, ℕ, ◌+◌, ◌-◌, ◌/◌, ◌<◌, ◌≤◌, get_or}
 use Rattle.loops.specs.Exactly.{Exactly}
 use Rattle.standard.specs.Strength.{limit, blimit}
-use Rattle.limits.specs.Limits.{no_table, limits_of, lut, LimitsLent}
+use Rattle.limits.specs.Limits.{LimitAnswer, no_table, limits_of, lut, LimitsLent}
 use Rattle.limits.specs.declared.Av1FilterLUT.{Av1FilterLUT}
-use Rattle.limits.specs.declared.LimitAnswer.{LimitAnswer}
 
 pub record Promised (s r : ℕ) (before after : Av1FilterLUT) : Type 0 where
   -- the numbers, exactly when

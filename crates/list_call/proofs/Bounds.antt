@@ -22,10 +22,9 @@ use Rattle.block.specs.Block.{w4, sees_luma, sees_chroma, Lent, at_block}
 use Rattle.block.specs.Tests.{shape_bad, code_bad, place_bad, tx_bad, max_tx_bad, ref_bad, luma_contexts_bad, chroma_contexts_bad, length_bad, number}
 use Rattle.record.specs.Record.{fill_row, fill_levels, luma_levels}
 use Rattle.list_fields.specs.Word.{Bytes}
-use Rattle.list_script.specs.declared.ScriptLine.{ScriptLine}
-use Rattle.list_script.specs.declared.ScriptLine.TheVariants.{Frame, Level, Block as BlockLine, Form}
-use Rattle.list_steps.specs.declared.State.{State}
-use Rattle.list_steps.specs.Steps.{form, Kept, state_of, counted, refused_by, refused, side_ok, depth_ok, frame_number, framed, bases, levelled, block_of, stored, blocked, said, taken, step_of}
+use Rattle.list_script.specs.Line.{Line, Frame, Level, Block as BlockLine, Form}
+use Rattle.list_steps.specs.State.{State, form, state_of}
+use Rattle.list_steps.specs.Steps.{Kept, counted, refused_by, refused, side_ok, depth_ok, frame_number, framed, bases, levelled, block_of, stored, blocked, said, taken, step_of}
 use Rattle.list_call.specs.Listing.{start, after}
 
 -- ---- bytes
@@ -142,7 +141,7 @@ blocked-bounded k b h =
     (record { number = h.number; values = h.values; levels = stored_bytes b k.values k.memory h.values h.levels })
     (refused-bounded k n (block-most b (w4 b) (at_block b k.memory)) h)
 
-taken-bounded : (k : Kept) (l : ScriptLine) → Bounded k → Bounded (taken k l)
+taken-bounded : (k : Kept) (l : Line) → Bounded k → Bounded (taken k l)
 taken-bounded k (Frame width height layout depth superblock sharpness) h =
     either (eqb k.state.phase 0)
     (record { state = framed k.state width height layout depth superblock sharpness; values = k.values; memory = k.memory })

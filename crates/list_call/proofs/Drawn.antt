@@ -10,15 +10,14 @@ use Rattle.bits.proofs.Marks.{none-set}
 use Rattle.loops.specs.Exactly.{Exactly}
 use Rattle.bits.specs.Mark.{is_set}
 use Rattle.block.specs.Block.{Lent}
-use Rattle.list_script.specs.declared.ScriptLine.{ScriptLine}
-use Rattle.list_script.specs.declared.ScriptLine.TheVariants.{Frame, Level, Block as BlockLine, Form}
+use Rattle.list_script.specs.Line.{Line, Frame, Level, Block as BlockLine, Form}
 use Rattle.list_steps.specs.Steps.{Kept, said, step_of}
 use Rattle.list_steps.proofs.Outcomes.{promises as steps}
 use Rattle.list_call.specs.Listing.{lines_of, start, after}
 use Rattle.list_call.specs.Promises.{Draws, Sets}
 use Rattle.list_call.proofs.Runs.{unrefused}
 
-record IsBlock (l : ScriptLine) : Type 0 where
+record IsBlock (l : Line) : Type 0 where
   pub x : ℕ
   pub y : ℕ
   pub size : ℕ
@@ -27,7 +26,7 @@ record IsBlock (l : ScriptLine) : Type 0 where
   pub uvtx : ℕ
   pub is : l ≡ BlockLine x y size tx chroma uvtx
 
-block-or-not : (l : ScriptLine) → IsBlock l ⊎ ((x y size tx chroma uvtx : ℕ) → ¬ (l ≡ BlockLine x y size tx chroma uvtx))
+block-or-not : (l : Line) → IsBlock l ⊎ ((x y size tx chroma uvtx : ℕ) → ¬ (l ≡ BlockLine x y size tx chroma uvtx))
 block-or-not (Frame a b c d e f) = inr (λ x y size tx chroma uvtx p. let z : ◌≡◌ {A = ℕ} 0 1 = cc in absurd (omega arith))
 block-or-not (Level a b c d) = inr (λ x y size tx chroma uvtx p. let z : ◌≡◌ {A = ℕ} 0 1 = cc in absurd (omega arith))
 block-or-not (BlockLine x y size tx chroma uvtx) = inl (record { x = x; y = y; size = size; tx = tx; chroma = chroma; uvtx = uvtx; is = refl })

@@ -12,8 +12,7 @@ use Rattle.list_fields.specs.Word.{Bytes}
 use Rattle.list_text.specs.Text.{tab, end, field_text, refused_text, form_text}
 use Rattle.list_text.proofs.Puts.{field-long, refused-long, form-long}
 use Rattle.list_put.proofs.Lengths.{promises as lists}
-use Rattle.list_steps.specs.declared.State.{State}
-use Rattle.list_steps.specs.Steps.{form}
+use Rattle.list_steps.specs.State.{State, form}
 use Rattle.list_steps.specs.Promises.{Proper}
 use Rattle.loops.specs.Flag.{on}
 use Rattle.list_call.specs.Listing.{lines_of, start, after, held_in, text_in, output_of, room}

@@ -13,10 +13,9 @@ use Rattle.levels.specs.Levels.{LevelsIn, levels_number, byte_at}
 use Rattle.block.specs.declared.Block.{Block}
 use Rattle.block.specs.Block.{w4, at_block}
 use Rattle.block.specs.Tests.{number}
-use Rattle.list_script.specs.declared.ScriptLine.{ScriptLine}
-use Rattle.list_script.specs.declared.ScriptLine.TheVariants.{Frame, Level, Block as BlockLine, Form}
-use Rattle.list_steps.specs.declared.State.{State}
-use Rattle.list_steps.specs.Steps.{form, Kept, state_of, counted, refused_by, refused, frame_number, framed, bases, levelled, block_of, stored, blocked, said, taken, step_of}
+use Rattle.list_script.specs.Line.{Line, Frame, Level, Block as BlockLine, Form}
+use Rattle.list_steps.specs.State.{State, form, state_of}
+use Rattle.list_steps.specs.Steps.{Kept, counted, refused_by, refused, frame_number, framed, bases, levelled, block_of, stored, blocked, said, taken, step_of}
 use Rattle.list_steps.proofs.Outcomes.{promises as steps}
 use Rattle.list_call.specs.Listing.{lines_of, start, after, Left}
 use Rattle.list_call.proofs.Runs.{step_stays}
@@ -56,7 +55,7 @@ blocked-early k b p =
     either (eqb n 0) (record { state = k.state; values = k.values; memory = stored b k.values k.memory }) (refused k n)
     (λ _ _ h. absurd (omega arith)) (λ e. refused-early k n (eqb-false n 0 e))
 
-taken-early : (k : Kept) (l : ScriptLine) → (k.state.phase < 2 → k.state.line ≡ k.state.phase + 1) → Early (taken k l).state
+taken-early : (k : Kept) (l : Line) → (k.state.phase < 2 → k.state.line ≡ k.state.phase + 1) → Early (taken k l).state
 taken-early k (Frame width height layout depth superblock sharpness) h =
     either (eqb k.state.phase 0)
     (record { state = framed k.state width height layout depth superblock sharpness; values = k.values; memory = k.memory })

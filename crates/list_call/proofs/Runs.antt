@@ -16,10 +16,9 @@ use Rattle.block.specs.declared.Block.{Block}
 use Rattle.block.specs.Block.{w4, at_block}
 use Rattle.block.specs.Tests.{number}
 use Rattle.levels.specs.Levels.{LevelsIn, levels_number, byte_at}
-use Rattle.list_script.specs.declared.ScriptLine.{ScriptLine}
-use Rattle.list_script.specs.declared.ScriptLine.TheVariants.{Frame, Level, Block as BlockLine, Form}
-use Rattle.list_steps.specs.declared.State.{State}
-use Rattle.list_steps.specs.Steps.{form, Kept, state_of, counted, refused_by, refused, frame_number, framed, bases, levelled, block_of, stored, blocked, said, taken, step_of}
+use Rattle.list_script.specs.Line.{Line, Frame, Level, Block as BlockLine, Form}
+use Rattle.list_steps.specs.State.{State, form, state_of}
+use Rattle.list_steps.specs.Steps.{Kept, counted, refused_by, refused, frame_number, framed, bases, levelled, block_of, stored, blocked, said, taken, step_of}
 use Rattle.list_call.specs.Listing.{lines_of, start, after}
 use Rattle.list_call.specs.Promises.{Stops}
 
@@ -64,7 +63,7 @@ blocked-line k b =
     let n = number b (w4 b) (at_block b k.memory) in
     either (eqb n 0) (record { state = k.state; values = k.values; memory = stored b k.values k.memory }) (refused k n) k.state.line refl refl
 
-taken-line : (k : Kept) (l : ScriptLine) → (taken k l).state.line ≡ k.state.line
+taken-line : (k : Kept) (l : Line) → (taken k l).state.line ≡ k.state.line
 taken-line k (Frame width height layout depth superblock sharpness) =
     either (eqb k.state.phase 0)
     (record { state = framed k.state width height layout depth superblock sharpness; values = k.values; memory = k.memory })

@@ -1,6 +1,6 @@
 -- The text of a state, by its tests in their order, and the answer of `list` from the text stored in the room.
 use mathlib.Core.List.{List}
-use mathlib.Core.Path.{◌≡◌, refl, sym, ap, ap₂, subst, ◌∙◌}
+use mathlib.Core.Path.{◌≡◌, sym, ap, ap₂, subst, ◌∙◌}
 use Prim.Native.Nat.{ℕ, ◌+◌, ◌*◌, ◌/◌, ◌<◌, ◌≤◌}
 use native.Mathlib.Omega.{arith}
 use borrow.Author.Tests.{eq-eqb, ne_eqb, lt-ltb, le-ltb, le-leb, lt-leb}
@@ -14,8 +14,8 @@ use Rattle.list_text.specs.Text.{refused_text, form_text, Put}
 use Rattle.list_edges.specs.Listed.{list_text}
 use Rattle.list_put.proofs.Lengths.{promises as lists}
 use Rattle.list_put.specs.Written.{held_of, Fits}
-use Rattle.list_steps.specs.declared.State.{State}
-use Rattle.list_steps.specs.Steps.{form, Kept}
+use Rattle.list_steps.specs.State.{State, form}
+use Rattle.list_steps.specs.Steps.{Kept}
 use Rattle.list_call.specs.Listing.{lines_of, start, after, held_in, text_in, text_of, output_of, room, ListAnswer, Left, Texted, Listable}
 use Rattle.list_call.proofs.PartLeft.{left}
 use Rattle.list_call.proofs.OutputFits.{form-short, refused-short}
@@ -54,25 +54,21 @@ module _ (s : State) (levels masks : List ℕ) where
         stored = λ _. put_as (refused_text s.line s.number) before after r (text-refused f n) p;
       }
 
-  pub early-texted : (before after : List ℕ) (r : ℕ) → length after ≡ length before → ¬ (s.number ≡ form) → s.number ≡ 0 → s.phase < 2
-      → Put before 0 (form_text (s.phase + 1)) after r → Texted s levels masks before after r
-  early-texted before after r o f z l p =
+  pub early-texted : (before after : List ℕ) (r : ℕ) → length after ≡ length before → s.number ≡ 0 → {p : ℕ} → s.phase ≡ p → p < 2
+      → Put before 0 (form_text (p + 1)) after r → Texted s levels masks before after r
+  early-texted before after r o z {p} e l q =
       record {
-        short = omega (arith, p.next, form-short (s.phase + 1) (omega arith));
+        short = omega (arith, q.next, form-short (p + 1) (omega arith));
         long = o;
-        stored = λ h. put_as (form_text (s.phase + 1)) before after r (ap (λ (n : ℕ). form_text (n + 1)) (sym (h.early z l)) ∙ text-early f z l) p;
+        stored = λ h.
+            put_as (form_text (p + 1)) before after r
+            (ap (λ (n : ℕ). form_text (n + 1)) (sym (h.early z (omega arith) ∙ e)) ∙ text-early (λ f. omega arith) z (omega arith)) q;
       }
 
-  pub list-texted : (before after : List ℕ) (r : ℕ) → length after ≡ length before → ¬ (s.number ≡ form) → s.number ≡ 0 → 2 ≤ s.phase
+  pub list-texted : (before after : List ℕ) (r : ℕ) → length after ≡ length before → s.number ≡ 0 → 2 ≤ s.phase
       → (r ≤ room) × Put before 0 (list_text (held_in s levels masks)) after r → Texted s levels masks before after r
-  list-texted before after r o f z l p =
-      record { short = p.0; long = o; stored = λ _. put_as (list_text (held_in s levels masks)) before after r (text-list f z l) p.1 }
-
-  pub wide-texted : (before : List ℕ) → 2 ≤ s.phase → 256 < s.width → Texted s levels masks before before 0
-  wide-texted before l w = record { short = omega arith; long = refl; stored = λ h. absurd (omega (arith, h.proper.width (omega arith))) }
-
-  pub high-texted : (before : List ℕ) → 2 ≤ s.phase → 256 < s.height → Texted s levels masks before before 0
-  high-texted before l w = record { short = omega arith; long = refl; stored = λ h. absurd (omega (arith, h.proper.height (omega arith))) }
+  list-texted before after r o z l p =
+      record { short = p.0; long = o; stored = λ _. put_as (list_text (held_in s levels masks)) before after r (text-list (λ f. omega arith) z l) p.1 }
 
 -- ---- the list
 

@@ -20,8 +20,8 @@ use Rattle.list_fields.specs.Fields.{cut}
 use Rattle.list_text.specs.Text.{end, refused_text, form_text, Put}
 use Rattle.list_edges.specs.Listed.{Held, list_text}
 use Rattle.list_put.specs.Written.{held_of}
-use Rattle.list_steps.specs.declared.State.{State}
-use Rattle.list_steps.specs.Steps.{form, Kept, state_of, step_of}
+use Rattle.list_steps.specs.State.{State, form, state_of}
+use Rattle.list_steps.specs.Steps.{Kept, step_of}
 use Rattle.list_steps.specs.Promises.{Proper}
 use Rattle.loops.specs.Flag.{on}
 

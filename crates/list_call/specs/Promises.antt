@@ -11,7 +11,7 @@ use Rattle.loops.specs.Run.{All}
 use Rattle.bits.specs.Mark.{is_set}
 use Rattle.record.specs.Recorded.{luma_edge, chroma_edge}
 use Rattle.list_fields.specs.Fields.{without}
-use Rattle.list_script.specs.declared.ScriptLine.TheVariants.{Block as BlockLine}
+use Rattle.list_script.specs.Line.{Block as BlockLine}
 use Rattle.list_text.specs.Text.{end}
 use Rattle.list_steps.specs.Steps.{Kept, said, block_of, step_of}
 use Rattle.block.specs.Block.{at_block}

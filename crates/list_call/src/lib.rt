@@ -4,18 +4,18 @@
 ghost use Rattle.std.specs.Prelude.{◌≡◌, ◌+◌, ◌<◌, ◌≤◌, length, replicate};
 ghost use Rattle.list_text.specs.Text.{Put};
 ghost use Rattle.list_edges.specs.Listed.{list_text};
+ghost use Rattle.list_steps.specs.State.{state_is};
 ghost use Rattle.list_steps.specs.Steps.{kept_of};
 ghost use Rattle.list_call.specs.Listing.{lines_of, start, after, held_in, room, ListAnswer, Texted, Listable, Taken};
 ghost use Rattle.list_call.specs.Promises.{Promises};
 
 use list_fields::end_of;
 use list_put::put_list;
-use list_steps::{Carried, State, step};
+use list_steps::{Carried, Fault, Phase, State, step};
 use list_text::{put_bytes, put_form, put_refused};
-use units::numbers::FORM;
 use units::{Sample, luma_units};
 
-const END: u8 = 10;
+const END: u8 = b'\n';
 
 // What the context bytes start at.
 const LUMA_START: u8 = 2;
@@ -35,8 +35,8 @@ pub fn start() -> Carried
 {
     let state = State {
         line: 0,
-        phase: 0,
-        number: 0,
+        phase: Phase::Start,
+        fault: None,
         width: 0,
         height: 0,
         layout: 0,
@@ -69,7 +69,7 @@ pub fn take_lines(
         at = e + 1;
         e = end_of(part, at, END);
     }
-    Rest { carried: k, at: at }
+    Rest { carried: k, at }
 }
 
 // After all lines, the last with its end or without.
@@ -87,8 +87,8 @@ pub fn run(c: Carried, script: &[u8], levels: &mut [u8; 16384], masks: &mut [u16
 }
 
 fn put_edges(s: State, levels: &[u8], masks: &[u16], out: &mut [u8]) -> usize
-    requires { Listable s (length levels.now) (length masks.now) (length out.old) }
-    ensures { (result ≤ room) × Put out.old 0 (list_text (held_in s levels.now masks.now)) out.new result }
+    requires { Listable (state_is s) (length levels.now) (length masks.now) (length out.old) }
+    ensures { (result ≤ room) × Put out.old 0 (list_text (held_in (state_is s) levels.now masks.now)) out.new result }
 {
     let w4 = luma_units(Sample(s.width as usize));
     let h4 = luma_units(Sample(s.height as usize));
@@ -102,24 +102,20 @@ pub fn put_text(
     masks: &[u16; 2560],
     out: &mut [u8; 393255],
 ) -> usize
-    ensures { Texted s levels.now masks.now out.old out.new result }
+    ensures { Texted (state_is s) levels.now masks.now out.old out.new result }
 {
-    if s.number == FORM {
-        return put_form(out, 0, s.line);
+    match (s.fault, s.phase) {
+        (Some(Fault::Form), _) => put_form(out, 0, s.line),
+        (Some(Fault::Refused(r)), _) => put_refused(out, 0, s.line, u64::from(u32::from(r))),
+        (None, Phase::Start) => put_form(out, 0, 1),
+        (None, Phase::Framed) => put_form(out, 0, 2),
+        (None, Phase::Leveled) => {
+            if 256 < s.width || 256 < s.height {
+                return 0;
+            }
+            put_edges(s, levels, masks, out)
+        }
     }
-    if s.number != 0 {
-        return put_refused(out, 0, s.line, s.number as u64);
-    }
-    if s.phase < 2 {
-        return put_form(out, 0, s.phase as u64 + 1);
-    }
-    if 256 < s.width {
-        return 0;
-    }
-    if 256 < s.height {
-        return 0;
-    }
-    put_edges(s, levels, masks, out)
 }
 
 pub fn list(script: &[u8], out: &mut [u8]) -> usize

@@ -1,6 +1,6 @@
 -- A digit more in a numeral, from the front as it is read and at the end as it is written; and a number is read back from its text, by recursion on its tenths.
 -- ---- reading
-use mathlib.Core.Bool.{Bool, true, false, ◌&&◌, and_assoc, and-false}
+use mathlib.Core.Bool.{Bool, true, false, ◌&&◌, and_assoc}
 use mathlib.Core.List.{List, [], ◌∷◌, ◌++◌, append_assoc}
 use mathlib.Core.Logic.{by_cases}
 use mathlib.Core.Path.{◌≡◌, refl, sym, ap, subst, ◌∙◌}
@@ -9,7 +9,7 @@ use native.Mathlib.Decide.{dec_lt}
 use native.Mathlib.Nat.{pow-suc, pow-le-pow_right, add-zero}
 use native.Mathlib.Numerals.{add-one}
 use native.Mathlib.Omega.{arith}
-use borrow.Author.Tests.{lt-ltb, le-ltb, le-leb, lt-leb, leb-true}
+use borrow.Author.Tests.{lt-ltb, le-ltb, le-leb, leb-true}
 use lib.Dec.{leb}
 use lib.ListN.{length, get_or, set, take, drop, length-append, length-take}
 use lib.Seq.{drop-cons, drop-length, set_at, set_split}
@@ -17,39 +17,11 @@ use Rattle.loops.proofs.Bools.{both_true}
 use Rattle.list_decimal.specs.Decimal.{is_digit, digits, value, numeral, no_number, number_of, decimal_in, decimal, pasted}
 use Rattle.list_decimal.specs.Promises.{Promises}
 
-pub value-next : (s : List ℕ) (i n : ℕ) → i < length s → value n (drop i s) ≡ value (n * 10 + (get_or s i 0 - 48)) (drop (i + 1) s)
-value-next s i n h = rw (add-one, drop-cons s i 0) refl
-
-pub digits-next : (s : List ℕ) (i : ℕ) → i < length s → digits (drop i s) ≡ (is_digit (get_or s i 0) && digits (drop (i + 1) s))
-digits-next s i h = rw (add-one, drop-cons s i 0) refl
-
 pub fits : (i n b : ℕ) → i ≤ 8 → n < 10 ^ i → b ≤ 57 → n * 10 + (b - 48) < 1000000000
 fits i n b h p q = omega (arith, pow-le-pow_right {n = 10} (omega arith) {i = i} {j = 8} h)
 
 pub fits_next : (i n b : ℕ) → n < 10 ^ i → b ≤ 57 → n * 10 + (b - 48) < 10 ^ (i + 1)
 fits_next i n b p q = rw add-one (omega (arith, pow-suc 10 i))
-
-pub number_short : (s : List ℕ) → length s < 1 → no_number ≡ number_of s
-unfolding number_of
-number_short s h = simp (lt-leb 1 (length s) h)
-
-pub number-long : (s : List ℕ) → 9 < length s → no_number ≡ number_of s
-unfolding number_of
-number-long s h = simp (lt-leb (length s) 9 h, and-false)
-
-pub number-other : (s : List ℕ) (i b : ℕ) → i < length s → digits s ≡ digits (drop i s) → b ≡ get_or s i 0 → is_digit b ≡ false → no_number ≡ number_of s
-unfolding number_of
-number-other s i b h d e g =
-    let f : digits s ≡ false = d ∙ digits-next s i h ∙ ap (λ (c : ℕ). is_digit c && digits (drop (i + 1) s)) (sym e) ∙ ap (λ (c : Bool). c && digits (drop (i + 1) s)) g in
-    simp (f, and-false)
-
-pub number_step : (s : List ℕ) (i n b : ℕ) → i < length s → b ≡ get_or s i 0 → 48 ≤ b → b ≤ 57 → n < 10 ^ i → digits s ≡ digits (drop i s) → value 0 s ≡ value n (drop i s)
-    → (n * 10 + (b - 48) < 10 ^ (i + 1)) × (digits s ≡ digits (drop (i + 1) s)) × (value 0 s ≡ value (n * 10 + (b - 48)) (drop (i + 1) s))
-number_step s i n b h e l m p d v = (
-  fits_next i n b p m,
-  d ∙ digits-next s i h ∙ ap (λ (c : ℕ). is_digit c && digits (drop (i + 1) s)) (sym e) ∙ simp (le-leb 48 b l, le-leb b 57 m),
-  v ∙ value-next s i n h ∙ ap (λ (c : ℕ). value (n * 10 + (c - 48)) (drop (i + 1) s)) (sym e),
-)
 
 pub number-done : (s : List ℕ) (i n : ℕ) → 1 ≤ length s → length s ≤ 9 → i ≡ length s → digits s ≡ digits (drop i s) → value 0 s ≡ value n (drop i s) → n ≡ number_of s
 unfolding number_of

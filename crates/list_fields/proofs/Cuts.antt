@@ -9,31 +9,22 @@ use native.Mathlib.Decide.{ℕ_discrete, dec_lt}
 use native.Mathlib.Nat.{add-suc}
 use native.Mathlib.Numerals.{add-one}
 use native.Mathlib.Omega.{arith}
-use borrow.Author.Tests.{eq-eqb, ne_eqb, eqb-true, not-true}
+use borrow.Author.Tests.{eq-eqb, eqb-true, not-true, lt-ltb, le-ltb}
 use lib.Dec.{eqb}
 use lib.ListN.{length, get_or, take, drop, length-append, length-drop, drop_of_length-le}
-use lib.Seq.{drop-cons, drop-drop, take-length, take-append_seam, drop-append-add, split_at}
+use lib.Seq.{drop-drop, take-length, take-append_seam, drop-append-add, split_at}
+use Rattle.std.proofs.lemmas.List.Recursion.{is_position_or_len}
+use Rattle.std.proofs.lemmas.List.Sums.{prefix_len-le-length}
+use Rattle.std.specs.List.{position, position_or_len}
+use Rattle.std.proofs.Common.{Option}
+use Rattle.std.specs.Option.{unwrap_or}
 use Rattle.loops.specs.Run.{All}
 use Rattle.loops.proofs.Bools.{both_true}
 use Rattle.list_fields.specs.Fields.{cut, rest, place, field, fields_of, joined, without}
 
-cut-here : (d : ℕ) (s : List ℕ) (i : ℕ) → i < length s → get_or s i 0 ≡ d → cut d (drop i s) ≡ 0
-unfolding cut
-cut-here d s i h e = rw (drop-cons s i 0) (simp (eq-eqb (get_or s i 0) d e))
-
-pub cut_on : (d : ℕ) (s : List ℕ) (i : ℕ) → i < length s → (get_or s i 0 ≡ d → ⊥) → i + cut d (drop i s) ≡ i + 1 + cut d (drop (i + 1) s)
-unfolding cut
-cut_on d s i h e = rw (add-one, drop-cons s i 0) (simp (ne_eqb (get_or s i 0) d e) (omega arith))
-
-cut-end : (d : ℕ) (s : List ℕ) (i : ℕ) → length s ≤ i → cut d (drop i s) ≡ 0
+pub cut-end : (d : ℕ) (s : List ℕ) (i : ℕ) → length s ≤ i → cut d (drop i s) ≡ 0
 unfolding cut
 cut-end d s i h = rw (drop_of_length-le s h) refl
-
-pub end-here : (d : ℕ) (s : List ℕ) (at i : ℕ) → i < length s → get_or s i 0 ≡ d → at + cut d (drop at s) ≡ i + cut d (drop i s) → i ≡ at + cut d (drop at s)
-end-here d s at i h e p = omega (arith, cut-here d s i h e)
-
-pub end-last : (d : ℕ) (s : List ℕ) (at i : ℕ) → length s ≤ i → at + cut d (drop at s) ≡ i + cut d (drop i s) → i ≡ at + cut d (drop at s)
-end-last d s at i h p = omega (arith, cut-end d s i h)
 
 cut-le : (d : ℕ) (s : List ℕ) → cut d s ≤ length s
 unfolding cut
@@ -43,6 +34,20 @@ cut-le d (b ∷ s) = go (eqb b d) (cut-le d s)
     go : (e : Bool) → cut d s ≤ length s → cond e 0 (suc (cut d s)) ≤ suc (length s)
     go true h = omega arith
     go false h = omega arith
+
+pub position-or : (p : ℕ → Bool) (s : List ℕ) (r : Option ℕ) → r ≡ position p s → unwrap_or r (length s) ≡ position_or_len p s
+position-or p s r e =
+    rw e
+    (by_cases (dec_lt (position_or_len p s) (length s))
+    (λ l. simp (lt-ltb (position_or_len p s) (length s) l))
+    (λ l. simp (le-ltb (position_or_len p s) (length s) (omega arith)) (omega (arith, prefix_len-le-length (λ x. not (p x)) s))))
+
+one_more : (n : ℕ) → suc n ≡ 1 + n
+one_more n = omega arith
+
+pub cut-position : (d : ℕ) (s : List ℕ) (r : Option ℕ) → r ≡ position (λ b. eqb b d) s → unwrap_or r (length s) ≡ cut d s
+unfolding cut
+cut-position d s r e = position-or (λ b. eqb b d) s r e ∙ sym (is_position_or_len (cut d) (λ b. eqb b d) refl (λ x xs. ap (cond (eqb x d) 0) (one_more (cut d xs))) s)
 
 pub place_none : (d : ℕ) (s : List ℕ) → 0 ≡ place d s 0
 unfolding place

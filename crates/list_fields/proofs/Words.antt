@@ -8,12 +8,9 @@ use native.Mathlib.Nat.{pow-suc, pow-le-pow_right, add-zero}
 use native.Mathlib.Numerals.{add-one}
 use native.Mathlib.Omega.{arith}
 use borrow.Author.Tests.{lt-ltb, le-ltb}
-use lib.ListN.{length, get_or, drop}
-use lib.Seq.{drop-cons, drop-length}
+use lib.ListN.{length, drop}
+use lib.Seq.{drop-length}
 use Rattle.list_fields.specs.Word.{pack, packed, Bytes}
-
-pub pack-next : (s : List ℕ) (i n b : ℕ) → i < length s → b ≡ get_or s i 0 → pack 1 s ≡ pack n (drop i s) → pack 1 s ≡ pack (n * 256 + b) (drop (i + 1) s)
-pack-next s i n b h e p = p ∙ rw (add-one, drop-cons s i 0) (ap (λ (c : ℕ). pack (n * 256 + c) (drop (suc i) s)) (sym e))
 
 pub packed-long : (s : List ℕ) → 7 < length s → 0 ≡ packed s
 unfolding packed

@@ -10,14 +10,10 @@ ghost use Rattle.list_fields.specs.Promises.{Promises};
 pub fn end_of(s: &[u8], at: usize, d: u8) -> usize
     ensures { result ≡ at + cut d (drop at s.now) }
 {
-    let mut i = at;
-    while i < s.len() {
-        if s[i] == d {
-            return i;
-        }
-        i += 1;
+    match s.get(at..) {
+        Some(rest) => at + rest.iter().position(|&b| b == d).unwrap_or(rest.len()),
+        None => at,
     }
-    i
 }
 
 pub fn start_of(s: &[u8], d: u8, k: usize) -> usize
@@ -25,18 +21,10 @@ pub fn start_of(s: &[u8], d: u8, k: usize) -> usize
     ensures { result ≡ place d s.now k }
 {
     let mut at = 0;
-    let mut i = 0;
-    while i < k {
+    for _ in 0..k {
         at = end_of(s, at, d) + 1;
-        i += 1;
     }
     at
-}
-
-fn as_u64(b: u8) -> u64
-    ensures { result ≡ b }
-{
-    b as u64
 }
 
 pub fn word(s: &[u8]) -> u64
@@ -45,11 +33,9 @@ pub fn word(s: &[u8]) -> u64
     if 7 < s.len() {
         return 0;
     }
-    let mut n: u64 = 1;
-    let mut i = 0;
-    while i < s.len() {
-        n = n * 256 + as_u64(s[i]);
-        i += 1;
+    let mut n = 1;
+    for &b in s {
+        n = n * 256 + u64::from(b);
     }
     n
 }

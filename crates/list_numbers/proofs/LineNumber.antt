@@ -27,25 +27,24 @@ use Rattle.block.specs.Faults.{BlockFault, ContextsFault, LengthFault}
 use Rattle.block.specs.Faults as blocks
 use Rattle.block.proofs.Numbers.{exactly-4 as block_4, exactly-5 as block_5, exactly-0 as block_0}
 use Rattle.record.specs.Record.{intra_of}
-use Rattle.list_script.specs.declared.ScriptLine.{ScriptLine}
-use Rattle.list_script.specs.declared.ScriptLine.TheVariants.{Frame, Level, Block}
+use Rattle.list_script.specs.Line.{Line, Frame, Level, Block}
 use Rattle.list_steps.specs.Steps.{side_ok, depth_ok, frame_number, bases}
 use Rattle.list_steps.proofs.Outcomes.{reflects-side}
 use Rattle.list_numbers.specs.Faults.{DepthFault, ShapeFault, layout-other, width-outside, height-outside, superblock-other}
 use Rattle.list_numbers.specs.Faults.{LevelFault, columns-above, rows_above, u-above, v_above, u-at-400, v-at-400}
 use Rattle.list_numbers.specs.Faults.{Refuses, sharpness-above, level, depth-other, shape, pair-at-400, block}
 
-pub data Judged (f l : ScriptLine) : ℕ → Type 0 where
+pub data Judged (f l : Line) : ℕ → Type 0 where
   clear : ((n : ℕ) → ¬ Refuses f l n) → Judged f l 0
   refuses : {n : ℕ} → Refuses f l n → ((m : ℕ) → m < n → ¬ Refuses f l m) → Judged f l n
 
 -- ---- a frame line
 
-module _ (f : ScriptLine) (width height layout depth superblock sharpness : ℕ) where
-  abbrev Line₁ : ScriptLine
+module _ (f : Line) (width height layout depth superblock sharpness : ℕ) where
+  abbrev Line₁ : Line
   Line₁ = Frame width height layout depth superblock sharpness
 
-  frame-faults : {g : ScriptLine} {n : ℕ} → Refuses g Line₁ n
+  frame-faults : {g : Line} {n : ℕ} → Refuses g Line₁ n
       → ((n ≡ 1) × (7 < sharpness)) ⊎ (((n ≡ 3) × DepthFault depth) ⊎ ((n ≡ 4) × ShapeFault width height layout superblock))
   frame-faults (sharpness-above h) = inl (refl, h)
   frame-faults (depth-other h) = inr (inl (refl, h))
@@ -126,7 +125,7 @@ unfolding outside
 at-63 = refl
 
 module _ (width height layout depth superblock sharpness columns rows u v : ℕ) where
-  abbrev First₂ : ScriptLine
+  abbrev First₂ : Line
   First₂ = Frame width height layout depth superblock sharpness
 
   level-is : levels.LevelFault layout (bases columns rows u v) → LevelFault layout columns rows u v
@@ -167,7 +166,7 @@ module _ (width height layout depth superblock sharpness columns rows u v : ℕ)
 -- ---- a block line
 
 module _ (width height layout depth superblock sharpness x y size tx chroma uvtx : ℕ) where
-  abbrev First₃ : ScriptLine
+  abbrev First₃ : Line
   First₃ = Frame width height layout depth superblock sharpness
 
   abbrev b : BlockIn

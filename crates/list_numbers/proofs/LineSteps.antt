@@ -9,9 +9,9 @@ use Rattle.loops.specs.Table.{tabulate}
 use Rattle.levels.specs.Levels.{byte_at, levels_number}
 use Rattle.block.specs.Block.{w4, at_block}
 use Rattle.block.specs.Tests.{number}
-use Rattle.list_script.specs.declared.ScriptLine.TheVariants.{Frame, Level, Block, Form}
-use Rattle.list_steps.specs.declared.State.{State}
-use Rattle.list_steps.specs.Steps.{form, Kept, kept, state_of, counted, said, frame_number, framed, bases, levelled, block_of, blocked, taken, step_of}
+use Rattle.list_script.specs.Line.{Frame, Level, Block, Form}
+use Rattle.list_steps.specs.State.{State, form, state_of}
+use Rattle.list_steps.specs.Steps.{Kept, kept, counted, said, frame_number, framed, bases, levelled, block_of, blocked, taken, step_of}
 
 -- a test of the number n alone: what it chooses has the number n
 numbered : {A : Type 0} (f : A → ℕ) (n : ℕ) (x y : A) → f x ≡ 0 → f y ≡ n → f (cond (eqb n 0) x y) ≡ n

@@ -19,9 +19,8 @@ use Rattle.mask_edges.specs.Recording.{Contexts}
 use Rattle.mask_edges.specs.Recording as recording
 use Rattle.mask_edges.proofs.BlockPasses.{chroma-low}
 use Rattle.record.specs.Recorded.{Stored, luma_block, chroma_block}
-use Rattle.list_script.specs.declared.ScriptLine.{ScriptLine}
-use Rattle.list_script.specs.declared.ScriptLine.TheVariants.{Frame, Level, Block as BlockLine, Form}
-use Rattle.list_steps.specs.declared.State.{State}
+use Rattle.list_script.specs.Line.{Line, Frame, Level, Block as BlockLine, Form}
+use Rattle.list_steps.specs.State.{State}
 use Rattle.list_steps.specs.Steps.{Kept, said, block_of, step_of}
 use Rattle.list_steps.specs.Promises.{Alike, Before}
 use Rattle.list_steps.proofs.Outcomes.{promises as steps}
@@ -131,7 +130,7 @@ module _ (s : State) (x y size tx chroma uvtx : ℕ) (m n : Lent) (r : Room m) w
 same-room : {m n : Lent} → n ≡ m → Room m → Room n
 same-room e r = subst Room (sym e) r
 
-abbrev is_block : ScriptLine → ℕ
+abbrev is_block : Line → ℕ
 is_block (Frame a b c d e f) = 0
 is_block (Level a b c d) = 0
 is_block (BlockLine a b c d e f) = 1
@@ -140,10 +139,10 @@ is_block Form = 0
 pub step_room : (k : Kept) (s : List ℕ) → k.state.number ≡ 0 → Room k.memory → Room (step_of k s).memory
 step_room k s z r = by_cases (ℕ_discrete (step_of k s).state.number 0) (λ e. go (said s) refl e) (λ f. same-room (steps.refused k s f) r)
   where
-    other : (l : ScriptLine) → is_block l ≡ 0 → said s ≡ l → Room (step_of k s).memory
+    other : (l : Line) → is_block l ≡ 0 → said s ≡ l → Room (step_of k s).memory
     other l h e = same-room (steps.keeps k s (λ x y size tx chroma uvtx p. let q = ap is_block (sym e ∙ p) in omega arith)) r
 
-    go : (l : ScriptLine) → said s ≡ l → (step_of k s).state.number ≡ 0 → Room (step_of k s).memory
+    go : (l : Line) → said s ≡ l → (step_of k s).state.number ≡ 0 → Room (step_of k s).memory
     go (Frame a b c d f g) e i = other (Frame a b c d f g) refl e
     go (Level a b c d) e i = other (Level a b c d) refl e
     go (BlockLine x y size tx chroma uvtx) e i =

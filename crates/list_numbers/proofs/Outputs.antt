@@ -16,12 +16,12 @@ use Rattle.loops.proofs.Tables.{length-tabulate}
 use Rattle.levels.specs.Levels.{byte_at, levels_done, LevelsAnswer}
 use Rattle.list_fields.specs.Fields.{joined}
 use Rattle.list_fields.specs.Word.{Bytes}
-use Rattle.list_script.specs.declared.ScriptLine.{ScriptLine}
-use Rattle.list_script.specs.declared.ScriptLine.TheVariants.{Frame, Level, Block, Form}
+use Rattle.list_script.specs.Line.{Line, Frame, Level, Block, Form}
 use Rattle.list_script.specs.Script.{space}
 use Rattle.list_script.specs.Promises.{Says, frame, level, block}
 use Rattle.list_text.specs.Text.{end, refused_text, form_text}
-use Rattle.list_steps.specs.Steps.{form, Kept, bases, block_of, step_of}
+use Rattle.list_steps.specs.State.{form}
+use Rattle.list_steps.specs.Steps.{Kept, bases, block_of, step_of}
 use Rattle.list_call.specs.Listing.{push, lines_of, start, after, text_in, output_of}
 use Rattle.list_call.specs.Promises.{Stops}
 use Rattle.list_call.proofs.Runs.{unrefused, stops}
@@ -50,7 +50,7 @@ line-bytes (c ∷ s) b j = go (eqb c end) (lines_of s) (line-bytes s (λ i. b (s
 
 -- ---- faults
 
-refuses-low : {f l : ScriptLine} {n : ℕ} → Refuses f l n → (1 ≤ n) × (n ≤ 5)
+refuses-low : {f l : Line} {n : ℕ} → Refuses f l n → (1 ≤ n) × (n ≤ 5)
 refuses-low (sharpness-above h) = omega arith
 refuses-low (level h) = omega arith
 refuses-low (depth-other h) = omega arith
@@ -58,7 +58,7 @@ refuses-low (shape h) = omega arith
 refuses-low (pair-at-400 e c) = omega arith
 refuses-low (block f) = omega arith
 
-some_byte : (fs : List (List ℕ)) (l : ScriptLine) → Says fs l → ¬ (joined space fs ≡ [])
+some_byte : (fs : List (List ℕ)) (l : Line) → Says fs l → ¬ (joined space fs ≡ [])
 some_byte fs l (frame a b c d e f) q = let z = ap length q in omega arith
 some_byte fs l (level a b c d) q = let z = ap length q in omega arith
 some_byte fs l (block a b c d e f g h) q = let z = ap length q in omega arith
@@ -119,7 +119,7 @@ module _ {ls : List (List ℕ)} where
 
 -- ---- what lines say
 
-abbrev of_frame : (ℕ → ℕ → ℕ → ℕ) → ScriptLine → ℕ
+abbrev of_frame : (ℕ → ℕ → ℕ → ℕ) → Line → ℕ
 of_frame g (Frame a b c d e f) = g a b c
 of_frame g (Level a b c d) = 0
 of_frame g (Block a b c d e f) = 0

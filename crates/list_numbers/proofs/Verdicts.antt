@@ -12,12 +12,11 @@ use Rattle.units.specs.Layout.{Layout}
 use Rattle.units.proofs.Tests.{reflects-layout}
 use Rattle.levels.specs.Levels.{byte_at}
 use Rattle.list_fields.specs.Word.{Bytes}
-use Rattle.list_script.specs.declared.ScriptLine.{ScriptLine}
-use Rattle.list_script.specs.declared.ScriptLine.TheVariants.{Frame, Level, Block, Form}
+use Rattle.list_script.specs.Line.{Line, Frame, Level, Block, Form}
 use Rattle.list_script.specs.Promises.{Says}
 use Rattle.list_script.proofs.LinesSaid.{promises as scripts}
-use Rattle.list_steps.specs.declared.State.{State}
-use Rattle.list_steps.specs.Steps.{form, longest, Kept, said, bases, block_of, step_of}
+use Rattle.list_steps.specs.State.{State, form}
+use Rattle.list_steps.specs.Steps.{longest, Kept, said, bases, block_of, step_of}
 use Rattle.list_steps.specs.Promises.{Proper}
 use Rattle.list_steps.proofs.Outcomes.{promises as steps}
 use Rattle.block.specs.Block.{at_block}
@@ -33,18 +32,18 @@ pub data Verdict (ls : List (List ℕ)) (j : ℕ) : ℕ → Type 0 where
   refused : {n : ℕ} → ¬ FormFault ls j → Fault ls j n → ((m : ℕ) → m < n → ¬ Fault ls j m) → Verdict ls j n
 
 -- the level values of a level line
-abbrev values_of : ScriptLine → List ℕ
+abbrev values_of : Line → List ℕ
 values_of (Frame a b c d e f) = []
 values_of (Level a b c d) = tabulate (byte_at (bases a b c d)) 64
 values_of (Block a b c d e f) = []
 values_of Form = []
 
 -- a line that has fields says something
-abbrev Said : ScriptLine → Type 0
+abbrev Said : Line → Type 0
 Said Form = ⊥
 Said l = Unit {0}
 
-says-so : {fs : List (List ℕ)} {l : ScriptLine} → Says fs l → Said l
+says-so : {fs : List (List ℕ)} {l : Line} → Says fs l → Said l
 says-so (Says.frame a b c d e f) = tt
 says-so (Says.level a b c d) = tt
 says-so (Says.block a b c d e f g h) = tt
@@ -55,13 +54,13 @@ no-form fs s = says-so s
 module _ (ls : List (List ℕ)) (bytes : (j : ℕ) → Bytes (get_or ls j [])) where
   -- ---- what a line says
 
-  pub same_line : {j : ℕ} {l m : ScriptLine} → At ls j l → At ls j m → l ≡ m
+  pub same_line : {j : ℕ} {l m : Line} → At ls j l → At ls j m → l ≡ m
   same_line {j} {l} {m} a b =
       scripts.unique (get_or ls j []) l m (bytes j) (inl (a.fields, a.says, a.is)) (inl (b.fields, b.says, b.is))
 
   data Told (j : ℕ) : Type 0 where
     nothing : said (get_or ls j []) ≡ Form → FormFault ls j → Told j
-    something : {l : ScriptLine} → said (get_or ls j []) ≡ l → length (get_or ls j []) ≤ longest → At ls j l → Told j
+    something : {l : Line} → said (get_or ls j []) ≡ l → length (get_or ls j []) ≤ longest → At ls j l → Told j
 
   told : (j : ℕ) → Told j
   unfolding said
@@ -77,16 +76,16 @@ module _ (ls : List (List ℕ)) (bytes : (j : ℕ) → Bytes (get_or ls j [])) w
 
   -- ---- a line that is judged
 
-  module _ {j : ℕ} {f l : ScriptLine} (first : At ls 0 f) (line : At ls j l) (short : length (get_or ls j []) ≤ longest) (turn : InTurn l j) where
+  module _ {j : ℕ} {f l : Line} (first : At ls 0 f) (line : At ls j l) (short : length (get_or ls j []) ≤ longest) (turn : InTurn l j) where
     well-formed : ¬ FormFault ls j
     well-formed (too_long h) = omega arith
     well-formed (no_line n) = n l line
-    well-formed (out-of-turn a n) = n (subst (λ (m : ScriptLine). InTurn m j) (same_line line a) turn)
+    well-formed (out-of-turn a n) = n (subst (λ (m : Line). InTurn m j) (same_line line a) turn)
 
     fault-of : {n : ℕ} → Fault ls j n → Refuses f l n
     fault-of {n} r =
-        subst (λ (g : ScriptLine). Refuses g l n) (same_line r.first-is first)
-        (subst (λ (m : ScriptLine). Refuses r.first m n) (same_line r.line-is line) r.refuses)
+        subst (λ (g : Line). Refuses g l n) (same_line r.first-is first)
+        (subst (λ (m : Line). Refuses r.first m n) (same_line r.line-is line) r.refuses)
 
     judged : {n : ℕ} → Judged f l n → Verdict ls j n
     judged (clear c) = sound (well-formed, λ n r. c n (fault-of r))
@@ -119,10 +118,10 @@ module _ (ls : List (List ℕ)) (bytes : (j : ℕ) → Bytes (get_or ls j [])) w
     pub verdict : Verdict ls j (step_of k s).state.number
     verdict = go (told j)
       where
-        late : {l : ScriptLine} → At ls j l → (step_of k s).state.number ≡ form → ¬ InTurn l j → Verdict ls j (step_of k s).state.number
+        late : {l : Line} → At ls j l → (step_of k s).state.number ≡ form → ¬ InTurn l j → Verdict ls j (step_of k s).state.number
         late a e n = rw e (formless (out-of-turn a n))
 
-        of : (l : ScriptLine) → said s ≡ l → length s ≤ longest → At ls j l → Verdict ls j (step_of k s).state.number
+        of : (l : Line) → said s ≡ l → length s ≤ longest → At ls j l → Verdict ls j (step_of k s).state.number
         of (Frame a b c d e f) q h at =
             by_cases (ℕ_discrete j 0)
             (λ z. rw (frame-number k s r.number q (omega (arith, r.phase))) (judged (subst (λ (i : ℕ). At ls i (Frame a b c d e f)) z at) at h z (frame-judged _ a b c d e f)))
@@ -172,7 +171,7 @@ module _ (ls : List (List ℕ)) (bytes : (j : ℕ) → Bytes (get_or ls j [])) w
         never : (step_of k s).state.number ≡ form → Reached (suc j) (step_of k s)
         never e = absurd (omega arith)
 
-        of : (l : ScriptLine) → said s ≡ l → At ls j l → Reached (suc j) (step_of k s)
+        of : (l : Line) → said s ≡ l → At ls j l → Reached (suc j) (step_of k s)
         of (Frame a b c d e f) q at =
             by_cases (ℕ_discrete k.state.phase 0)
             (λ p.

@@ -11,17 +11,16 @@ use Rattle.units.specs.Layout.{Layout}
 use Rattle.block.specs.Faults.{BlockFault}
 use Rattle.record.specs.Record.{intra_of}
 use Rattle.list_fields.specs.Fields.{joined}
-use Rattle.list_script.specs.declared.ScriptLine.{ScriptLine}
-use Rattle.list_script.specs.declared.ScriptLine.TheVariants.{Frame, Level, Block, Form}
+use Rattle.list_script.specs.Line.{Line, Frame, Level, Block, Form}
 use Rattle.list_script.specs.Script.{space}
 use Rattle.list_script.specs.Promises.{Says}
 
-pub record At (ls : List (List ℕ)) (j : ℕ) (l : ScriptLine) : Type 0 where
+pub record At (ls : List (List ℕ)) (j : ℕ) (l : Line) : Type 0 where
   pub fields : List (List ℕ)
   pub says : Says fields l
   pub is : get_or ls j [] ≡ joined space fields
 
-abbrev pub InTurn : ScriptLine → ℕ → Type 0
+abbrev pub InTurn : Line → ℕ → Type 0
 InTurn (Frame width height layout depth superblock sharpness) j = j ≡ 0
 InTurn (Level columns rows u v) j = j ≡ 1
 InTurn (Block x y size tx chroma uvtx) j = 2 ≤ j
@@ -29,8 +28,8 @@ InTurn Form j = ⊥
 
 pub data FormFault (ls : List (List ℕ)) (j : ℕ) : Type 0 where
   too_long : 65535 < length (get_or ls j []) → FormFault ls j
-  no_line : ((l : ScriptLine) → ¬ At ls j l) → FormFault ls j
-  out-of-turn : {l : ScriptLine} → At ls j l → ¬ InTurn l j → FormFault ls j
+  no_line : ((l : Line) → ¬ At ls j l) → FormFault ls j
+  out-of-turn : {l : Line} → At ls j l → ¬ InTurn l j → FormFault ls j
 
 abbrev pub DepthFault : ℕ → Type 0
 DepthFault depth = ¬ (((depth ≡ 8) ⊎ (depth ≡ 10)) ⊎ (depth ≡ 12))
@@ -50,14 +49,14 @@ pub data LevelFault (layout columns rows u v : ℕ) : Type 0 where
   v-at-400 : layout ≡ 400 → ¬ (v ≡ 0) → LevelFault layout columns rows u v
 
 -- a block is that of `record_intra`, in the frame line's frame
-pub data Refuses : ScriptLine → ScriptLine → ℕ → Type 0 where
-  sharpness-above : {f : ScriptLine} {width height layout depth superblock sharpness : ℕ} → 7 < sharpness
+pub data Refuses : Line → Line → ℕ → Type 0 where
+  sharpness-above : {f : Line} {width height layout depth superblock sharpness : ℕ} → 7 < sharpness
       → Refuses f (Frame width height layout depth superblock sharpness) 1
   level : {width height layout depth superblock sharpness columns rows u v : ℕ} → LevelFault layout columns rows u v
       → Refuses (Frame width height layout depth superblock sharpness) (Level columns rows u v) 2
-  depth-other : {f : ScriptLine} {width height layout depth superblock sharpness : ℕ} → DepthFault depth
+  depth-other : {f : Line} {width height layout depth superblock sharpness : ℕ} → DepthFault depth
       → Refuses f (Frame width height layout depth superblock sharpness) 3
-  shape : {f : ScriptLine} {width height layout depth superblock sharpness : ℕ} → ShapeFault width height layout superblock
+  shape : {f : Line} {width height layout depth superblock sharpness : ℕ} → ShapeFault width height layout superblock
       → Refuses f (Frame width height layout depth superblock sharpness) 4
   pair-at-400 : {width height layout depth superblock sharpness x y size tx chroma uvtx : ℕ} → layout ≡ 400 → ¬ (chroma ≡ 0)
       → Refuses (Frame width height layout depth superblock sharpness) (Block x y size tx chroma uvtx) 4
@@ -66,9 +65,9 @@ pub data Refuses : ScriptLine → ScriptLine → ℕ → Type 0 where
       → Refuses (Frame width height layout depth superblock sharpness) (Block x y size tx chroma uvtx) 5
 
 pub record Fault (ls : List (List ℕ)) (j n : ℕ) : Type 0 where
-  pub first : ScriptLine
+  pub first : Line
   pub first-is : At ls 0 first
-  pub line : ScriptLine
+  pub line : Line
   pub line-is : At ls j line
   pub refuses : Refuses first line n
 

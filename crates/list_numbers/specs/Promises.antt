@@ -15,7 +15,7 @@ use Rattle.levels.specs.Levels.{LevelsAnswer}
 use Rattle.block.specs.Block.{w4, at_block}
 use Rattle.block.specs.Faults.{ContextsFault, LengthFault}
 use Rattle.list_fields.specs.Word.{Bytes}
-use Rattle.list_script.specs.declared.ScriptLine.TheVariants.{Frame, Level}
+use Rattle.list_script.specs.Line.{Frame, Level}
 use Rattle.list_text.specs.Text.{refused_text, form_text}
 use Rattle.list_edges.specs.Listed.{list_text}
 use Rattle.list_steps.specs.Steps.{Kept, bases, block_of}

@@ -1,17 +1,17 @@
 // One unit: its edge, if it has one, and the line of text for it.
-ghost use Rattle.std.specs.Prelude.{◌≡◌, ◌*◌, ◌≤◌, length};
+ghost use Rattle.std.specs.Prelude.{◌≡◌, ◌*◌, ◌<◌, ◌≤◌, length, unwrap_or, IfSome};
 ghost use Rattle.plane.specs.Plane.{unit};
 ghost use Rattle.units.specs.Frame.{frame_records};
 ghost use Rattle.units.specs.Memory.{level_at};
 ghost use Rattle.edges.specs.Edges.{edge_bit, edge};
 ghost use Rattle.plane.specs.Line.{pass_of};
-ghost use Rattle.edges.specs.Class.{class_no};
+ghost use Rattle.edges.specs.Class.{class_no, no_class};
 ghost use Rattle.list_edges.specs.Listed.{area, edges_at};
 ghost use Rattle.list_put.specs.Written.{grid_at, held_in, Fits, Inside, Room, Wrote};
 
 use crate::{Part, Written};
 use edges::bit::edge_bit;
-use edges::{NO_CLASS, chroma_class, luma_class};
+use edges::{chroma_class, luma_class};
 use list_text::put_edge;
 use units::layout::{plane_ss_hor, plane_ss_ver};
 use units::memory::{chroma_level_at, luma_level_at};
@@ -45,9 +45,10 @@ fn bit_at(p: Part, x: usize, y: usize) -> usize
     )
 }
 
-fn class_at(masks: &[u16], p: Part, x: usize, y: usize) -> u8
+fn class_at(masks: &[u16], p: Part, x: usize, y: usize) -> Option<u8>
     requires { Inside p x y × (640 * frame_records p.w4.0 p.h4.0 ≤ length masks.now) }
-    ensures { result ≡ class_no (edge (grid_at p) masks.now (pass_of p.rowwise) (unit (pass_of p.rowwise) x y)) }
+    ensures class { unwrap_or result no_class ≡ class_no (edge (grid_at p) masks.now (pass_of p.rowwise) (unit (pass_of p.rowwise) x y)) }
+    ensures low { IfSome result (λ c. c < no_class) }
 {
     let e = bit_at(p, x, y);
     if p.plane == 0 {
@@ -81,21 +82,20 @@ pub fn put_unit(
     if across(p, x, y) == 0 {
         return w;
     }
-    let class = class_at(masks, p, x, y);
-    if class == NO_CLASS {
+    let Some(class) = class_at(masks, p, x, y) else {
         return w;
-    }
+    };
     let place = level_place(p, x, y);
     let level = levels[place];
     let at = put_edge(
         out,
         w.at,
         p.plane as u64,
-        p.rowwise as u64,
+        u64::from(p.rowwise),
         x as u64,
         y as u64,
-        class as u64,
-        level as u64,
+        u64::from(class),
+        u64::from(level),
     );
     Written {
         at,

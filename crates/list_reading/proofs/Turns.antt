@@ -5,6 +5,8 @@ use Prim.Native.Nat.{ℕ, zero, suc, ◌+◌, ◌-◌, ◌<◌, ◌≤◌}
 use native.Mathlib.Omega.{arith}
 use lib.ListN.{length, take, drop, length-append, length-drop}
 use lib.Seq.{take-nil, take-add, drop-drop, length-take-le}
+use Rattle.std.proofs.Common.{Result, Ok, Err, IfOk}
+use Rattle.std.specs.Result.{result_unwrap_or}
 use Rattle.list_text.specs.Text.{Put}
 use Rattle.list_steps.specs.Steps.{Kept}
 use Rattle.list_call.specs.Listing.{lines_of, start, after, output_of, Taken, Texted}
@@ -40,6 +42,11 @@ length_rest : (at e : ℕ) (b : List ℕ) → e ≤ length b → length (rest at
 length_rest at e b h = length-take-le (e - at) (drop at b) (omega (arith, length-drop at b))
 
 -- ---- a part
+
+-- what a read that failed gives is 0 bytes
+pub read-some : {E : Type 0} (P : ℕ → Type 0) (r : Result ℕ E) (n : ℕ) → n ≡ result_unwrap_or r 0 → IfOk r P → P 0 → P n
+read-some P (Ok m) n e h z = subst P (sym e) h
+read-some P (Err f) n e h z = subst P (sym e) z
 
 module _ (k : Kept) (at held read : ℕ) (b : List ℕ) (safe : Safe k.state.line at held read (length b)) (b₁ : List ℕ) (gone : ℕ) (long₁ : length b₁ ≡ length b)
     (roomy : Roomy b at held b₁ gone) (b₂ : List ℕ) (n most : ℕ) (long₂ : length b₂ ≡ length b₁)

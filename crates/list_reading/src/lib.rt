@@ -1,20 +1,14 @@
 // A script read in parts, and its listing.
 #![tactic(auto)]
 
-ghost use Rattle.std.specs.Prelude.{◌≡◌, ◌+◌, ◌<◌, ◌≤◌, length, take, drop};
+ghost use Rattle.std.specs.Prelude.{◌≡◌, ◌+◌, ◌<◌, ◌≤◌, length, take, drop, IfOk};
 ghost use Rattle.list_steps.specs.Steps.{kept_of};
 ghost use Rattle.list_reading.specs.Reading.{Safe, Roomy, Adds, Reached, Ended, ListedAnswer};
 
 use list_call::{put_text, run, start, take_lines};
 use list_steps::Carried;
+use std::io;
 use std::io::Read;
-
-// The bytes of one read, and whether it failed.
-#[derive(Clone, Copy)]
-struct Got {
-    n: usize,
-    failed: bool,
-}
 
 // The buffer's first `held` bytes were read, of which those before `at` are taken; `read` bytes in all.
 #[derive(Clone, Copy)]
@@ -42,22 +36,14 @@ pub struct Answer {
     pub failed: bool,
 }
 
-fn least(a: usize, b: usize) -> usize
-    ensures { (result ≤ a) × (result ≤ b) }
-{
-    if a < b { a } else { b }
-}
-
 // One read, of at most `most` bytes, to the places from `held` on.
-fn read_more<R: Read>(input: &mut R, buf: &mut [u8], held: usize, most: usize) -> Got
+fn read_more<R: Read>(input: &mut R, buf: &mut [u8], held: usize, most: usize) -> io::Result<usize>
     requires { held ≤ length buf.old }
-    ensures { (take held buf.new ≡ take held buf.old) × (held + result.n ≤ length buf.old) × (result.n ≤ most) }
+    ensures before { take held buf.new ≡ take held buf.old }
+    ensures read { IfOk result (λ n. (held + n ≤ length buf.old) × (n ≤ most)) }
 {
-    let e = held + least(most, buf.len() - held);
-    match input.read(&mut buf[held..e]) {
-        Ok(n) => Got { n, failed: false },
-        Err(_) => Got { n: 0, failed: true },
-    }
+    let end = held + most.min(buf.len() - held);
+    input.read(&mut buf[held..end])
 }
 
 fn move_to_front(buf: &mut [u8], at: usize, n: usize)
@@ -96,14 +82,16 @@ fn part<R: Read>(
     let at = p.at - gone;
     let held = p.held - gone;
     let got = read_more(input, buf, held, most);
-    let e = held + got.n;
-    let r = take_lines(p.carried, &buf[at..e], levels, masks);
+    let failed = got.is_err();
+    let n = got.unwrap_or(0);
+    let end = held + n;
+    let r = take_lines(p.carried, &buf[at..end], levels, masks);
     Progress {
         carried: r.carried,
         at: at + r.at,
-        held: e,
-        read: p.read + got.n,
-        failed: got.failed,
+        held: end,
+        read: p.read + n,
+        failed,
     }
 }
 
@@ -128,16 +116,12 @@ fn parts<R: Read>(
         read: 0,
         failed: false,
     };
-    let mut read = 0;
-    while read < total {
-        p = part(input, p, least(most, total - read), buf, levels, masks);
-        if p.read == read {
+    while p.read < total {
+        let read = p.read;
+        p = part(input, p, most.min(total - read), buf, levels, masks);
+        if p.read == read || p.carried.state.fault.is_some() {
             return p;
         }
-        if p.carried.state.number != 0 {
-            return p;
-        }
-        read = p.read;
     }
     p
 }

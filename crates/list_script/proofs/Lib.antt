@@ -1,3 +1,4 @@
+pub mod NumeralsRead
 pub mod Tables
 pub mod Lines
 pub mod NamesFound

@@ -1,8 +1,8 @@
 -- What each answer of the reader is, in terms of what its calls ensure.
 -- ---- the fields that there are
-use mathlib.Core.Bool.{true, false, ◌||◌, cond, or-true}
-use mathlib.Core.List.{List, []}
-use mathlib.Core.Path.{◌≡◌, refl, sym, ◌∙◌}
+use mathlib.Core.Bool.{true, false, cond, or-true}
+use mathlib.Core.List.{List}
+use mathlib.Core.Path.{◌≡◌, sym, ◌∙◌}
 use Prim.Native.Nat.{ℕ, ◌+◌, ◌≤◌, ◌<◌}
 use native.Mathlib.Omega.{arith}
 use borrow.Author.Tests.{eq-eqb, ne_eqb}
@@ -13,11 +13,7 @@ use Rattle.list_fields.specs.Word.{packed}
 use Rattle.list_fields.proofs.Cuts.{place_in}
 use Rattle.list_script.specs.Names.{block_in, tx_in, frame_word, level_word, block_word, intra_word, no_word}
 use Rattle.list_script.specs.Script.{space, Has, at, number_at, no_numbers, no_words, frame_of, level_of, block_of, seven_of, line_of}
-use Rattle.list_script.specs.declared.ScriptLine.{ScriptLine}
-use Rattle.list_script.specs.declared.ScriptLine.TheVariants.{Frame, Level, Block, Form}
-
-pub has-less : (s : List ℕ) (n m : ℕ) → Has s n → m ≤ n → Has s m
-has-less s n m h l = record { small = omega (arith, h.small); begins = λ k g. h.begins k (omega arith) }
+use Rattle.list_script.specs.Line.{Line, Frame, Level, Block, Form}
 
 pub has-at : (s : List ℕ) (n k : ℕ) → Has s n → k < n → (place space s k ≤ length s) × (length s + k < 18446744073709551615)
 has-at s n k h l = (h.begins k l, omega (arith, h.small))
@@ -26,14 +22,6 @@ pub has_of : (s : List ℕ) (n p : ℕ) → length s < 9223372036854775808 → n
 has_of s n p l h e f = record { small = omega arith; begins = λ k g. place_in space s n k (sym e ∙ f) g }
 
 -- ---- words
-
-empty : packed [] ≡ 1
-unfolding packed
-empty = refl
-
-pub words-none : (s : List ℕ) (a b c : ℕ) → a ≡ packed (at s 3) → b ≡ packed (at s 4) → c ≡ packed (at s 5)
-    → ((eqb a 1 || eqb b 1) || eqb c 1) ≡ no_words s
-words-none s a b c p q r = rw (p, q, r, empty) refl
 
 pub is_none : (a x y : ℕ) → a ≡ packed no_word → x ≡ cond (eqb a (packed no_word)) x y
 is_none a x y e = simp (eq-eqb a (packed no_word) e)
@@ -86,11 +74,11 @@ unfolding block_of
 block-line s w v₃ v₄ v₅ a b c d e f n m p q q₃ q₄ q₅ p₁ p₂ p₃ p₄ p₅ p₆ =
     rw (p₁, p₂, p₃, p₄, p₅, p₆, q₃, q₄, q₅) (simp (n, m, eq-eqb (packed (at s 6)) (packed intra_word) (sym p ∙ q)))
 
-pub seven-frame : (s : List ℕ) (w : ℕ) (l : ScriptLine) → w ≡ packed (at s 0) → w ≡ packed frame_word → l ≡ frame_of s → l ≡ seven_of s
+pub seven-frame : (s : List ℕ) (w : ℕ) (l : Line) → w ≡ packed (at s 0) → w ≡ packed frame_word → l ≡ frame_of s → l ≡ seven_of s
 unfolding seven_of
 seven-frame s w l p q e = e ∙ simp (eq-eqb (packed (at s 0)) (packed frame_word) (sym p ∙ q))
 
-pub seven-block : (s : List ℕ) (w : ℕ) (l : ScriptLine) → w ≡ packed (at s 0) → (w ≡ packed frame_word → ⊥) → w ≡ packed block_word → l ≡ block_of s → l ≡ seven_of s
+pub seven-block : (s : List ℕ) (w : ℕ) (l : Line) → w ≡ packed (at s 0) → (w ≡ packed frame_word → ⊥) → w ≡ packed block_word → l ≡ block_of s → l ≡ seven_of s
 unfolding seven_of
 seven-block s w l p q r e =
     e ∙ simp (ne_eqb (packed (at s 0)) (packed frame_word) (λ z. q (p ∙ z)), eq-eqb (packed (at s 0)) (packed block_word) (sym p ∙ r))
@@ -100,11 +88,11 @@ unfolding seven_of
 seven-form s w p q r =
     simp (ne_eqb (packed (at s 0)) (packed frame_word) (λ z. q (p ∙ z)), ne_eqb (packed (at s 0)) (packed block_word) (λ z. r (p ∙ z)))
 
-pub line-five : (s : List ℕ) (p : ℕ) (l : ScriptLine) → p ≡ place space s 5 → p ≡ length s + 1 → l ≡ level_of s → l ≡ line_of s
+pub line-five : (s : List ℕ) (p : ℕ) (l : Line) → p ≡ place space s 5 → p ≡ length s + 1 → l ≡ level_of s → l ≡ line_of s
 unfolding line_of
 line-five s p l e f g = g ∙ simp (eq-eqb (place space s 5) (length s + 1) (sym e ∙ f))
 
-pub line-seven : (s : List ℕ) (p q : ℕ) (l : ScriptLine) → p ≡ place space s 5 → (p ≡ length s + 1 → ⊥) → q ≡ place space s 7 → q ≡ length s + 1 → l ≡ seven_of s → l ≡ line_of s
+pub line-seven : (s : List ℕ) (p q : ℕ) (l : Line) → p ≡ place space s 5 → (p ≡ length s + 1 → ⊥) → q ≡ place space s 7 → q ≡ length s + 1 → l ≡ seven_of s → l ≡ line_of s
 unfolding line_of
 line-seven s p q l e f g h i =
     i ∙ simp (ne_eqb (place space s 5) (length s + 1) (λ z. f (e ∙ z)), eq-eqb (place space s 7) (length s + 1) (sym g ∙ h))

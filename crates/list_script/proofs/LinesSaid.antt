@@ -25,8 +25,7 @@ use Rattle.list_fields.proofs.Words.{same}
 use Rattle.list_script.specs.Names.{block_name, tx_name, block_in, tx_in, frame_word, level_word, block_word, intra_word, no_word}
 use Rattle.list_script.specs.Script.{space, at, is_word, number_at, no_numbers, no_words, chroma_of, uvtx_of, frame_of, level_of, block_of, seven_of, line_of}
 use Rattle.list_script.specs.Promises.{Numeral, Word, Chroma, none, given, named, Says, frame, level, block, printed, Sayable, luma, pair, Reads, Promises}
-use Rattle.list_script.specs.declared.ScriptLine.{ScriptLine}
-use Rattle.list_script.specs.declared.ScriptLine.TheVariants.{Form}
+use Rattle.list_script.specs.Line.{Line, Form}
 use Rattle.list_script.proofs.NamesFound.{bytes_of, block-coded, tx-coded, block-decoded, tx-decoded}
 use Rattle.list_script.proofs.Lines.{is_none, is-given, frame-form, frame-line, level-other, level-form, level-line, block-form, block-empty}
 use Rattle.list_script.proofs.Lines.{block-other, block-line, seven-frame, seven-block, seven-form, line-five, line-seven, line-form}
@@ -96,7 +95,7 @@ chroma-is w c t b (given n r) =
     let d : packed w ≡ packed no_word → ⊥ = λ e. n (same w no_word b (bytes_of no_word (omega arith, tt)) (omega arith) e) in
     (is-given (packed w) 0 1 d, sym (tx-decoded w t b r) ∙ is-given (packed w) 0 (tx_in (packed w)) d)
 
-back : (fs : List (List ℕ)) (l : ScriptLine) → Bytes (joined space fs) → Says fs l → line_of (joined space fs) ≡ l
+back : (fs : List (List ℕ)) (l : Line) → Bytes (joined space fs) → Says fs l → line_of (joined space fs) ≡ l
 back fs l b (frame {f₁} {f₂} {f₃} {f₄} {f₅} {f₆} n₁ n₂ n₃ n₄ n₅ n₆) =
     let F = f₁ ∷ f₂ ∷ f₃ ∷ f₄ ∷ f₅ ∷ f₆ ∷ [] in
     let p : All (λ g. without space g ≡ true) (frame_word ∷ F) =
@@ -158,7 +157,7 @@ back fs l b (block {f₁} {f₂} {f₃} {f₄} {f₅} {x} {y} {size} {tx} {chrom
 
 -- ---- read, so printed
 
-abbrev Said : List ℕ → ScriptLine → Type 0
+abbrev Said : List ℕ → Line → Type 0
 Said s l = (l ≡ Form) ⊎ ((fs : List (List ℕ)) × Says fs l × (s ≡ joined space fs))
 
 word-is : (s : List ℕ) (k : ℕ) (w : List ℕ) → Bytes s → All (λ b. b < 256) w → length w ≤ 7 → eqb (packed (at s k)) (packed w) ≡ true → at s k ≡ w
@@ -176,7 +175,7 @@ said-level s b h = go (is_word s 0 level_word) (no_numbers s 4) refl refl
     go true true e f = inl (sym (level-form s f))
     go true false e f =
         let m = numeral-at s 4 f in
-        subst (λ (l : ScriptLine). Said s l)
+        subst (λ (l : Line). Said s l)
         (level-line s (packed (at s 0)) _ _ _ _ refl (eqb-true (packed (at s 0)) (packed level_word) e) f refl refl refl refl)
         (inr (
           level_word ∷ at s 1 ∷ at s 2 ∷ at s 3 ∷ at s 4 ∷ [],
@@ -193,7 +192,7 @@ said-frame s b h e = go (no_numbers s 6) refl
     go true f = inl (sym (frame-form s f))
     go false f =
         let m = numeral-at s 6 f in
-        subst (λ (l : ScriptLine). Said s l) (frame-line s _ _ _ _ _ _ f refl refl refl refl refl refl)
+        subst (λ (l : Line). Said s l) (frame-line s _ _ _ _ _ _ f refl refl refl refl refl refl)
         (inr (
           frame_word ∷ at s 1 ∷ at s 2 ∷ at s 3 ∷ at s 4 ∷ at s 5 ∷ at s 6 ∷ [],
           frame (m 0 (omega arith)) (m 1 (omega arith)) (m 2 (omega arith)) (m 3 (omega arith)) (m 4 (omega arith)) (m 5 (omega arith)),
@@ -235,7 +234,7 @@ said-block s b h e = go (no_numbers s 2) (no_words s) (is_word s 6 intra_word) r
         let m = numeral-at s 2 f in
         let v = or_off (is_word s 3 [] || is_word s 4 []) (is_word s 5 []) g in
         let u = or_off (is_word s 3 []) (is_word s 4 []) v.0 in
-        subst (λ (l : ScriptLine). Said s l)
+        subst (λ (l : Line). Said s l)
         (block-line s (packed (at s 6)) (packed (at s 3)) (packed (at s 4)) (packed (at s 5)) (number_at s 1) (number_at s 2) (block_in (packed (at s 3)))
         (tx_in (packed (at s 4))) (chroma_of (at s 5)) (uvtx_of (at s 5)) f g refl (eqb-true (packed (at s 6)) (packed intra_word) j)
         refl refl refl refl refl refl refl refl refl)
@@ -255,10 +254,10 @@ said-seven s b h = go (is_word s 0 frame_word) (is_word s 0 block_word) refl ref
   where
     go : (c d : Bool) → is_word s 0 frame_word ≡ c → is_word s 0 block_word ≡ d → Said s (seven_of s)
     go true d e f =
-        subst (λ (l : ScriptLine). Said s l) (seven-frame s (packed (at s 0)) (frame_of s) refl (eqb-true (packed (at s 0)) (packed frame_word) e) refl)
+        subst (λ (l : Line). Said s l) (seven-frame s (packed (at s 0)) (frame_of s) refl (eqb-true (packed (at s 0)) (packed frame_word) e) refl)
         (said-frame s b h e)
     go false true e f =
-        subst (λ (l : ScriptLine). Said s l)
+        subst (λ (l : Line). Said s l)
         (seven-block s (packed (at s 0)) (block_of s) refl (eqb-false (packed (at s 0)) (packed frame_word) e) (eqb-true (packed (at s 0)) (packed block_word) f) refl)
         (said-block s b h f)
     go false false e f =
@@ -272,11 +271,11 @@ said s b = go (parted space s 5) (parted space s 7) refl refl
     go : (c d : Bool) → parted space s 5 ≡ c → parted space s 7 ≡ d → Said s (line_of s)
     go true d e f =
         let z = eqb-true (place space s 5) (length s + 1) e in
-        subst (λ (l : ScriptLine). Said s l) (line-five s (place space s 5) (level_of s) refl z refl) (said-level s b z)
+        subst (λ (l : Line). Said s l) (line-five s (place space s 5) (level_of s) refl z refl) (said-level s b z)
     go false true e f =
         let y = eqb-false (place space s 5) (length s + 1) e in
         let z = eqb-true (place space s 7) (length s + 1) f in
-        subst (λ (l : ScriptLine). Said s l) (line-seven s (place space s 5) (place space s 7) (seven_of s) refl y refl z refl) (said-seven s b z)
+        subst (λ (l : Line). Said s l) (line-seven s (place space s 5) (place space s 7) (seven_of s) refl y refl z refl) (said-seven s b z)
     go false false e f =
         inl
         (sym
@@ -308,7 +307,7 @@ tx-other c h e = omega (arith, tx-longer c h, ap length e)
 no-word : Word no_word
 no-word = record { some = omega arith; one = refl }
 
-prints : (l : ScriptLine) → Sayable l → Says (printed l) l
+prints : (l : Line) → Sayable l → Says (printed l) l
 prints l (frame a b c d e f) = frame (spelt _ a) (spelt _ b) (spelt _ c) (spelt _ d) (spelt _ e) (spelt _ f)
 prints l (level a b c d) = level (spelt _ a) (spelt _ b) (spelt _ c) (spelt _ d)
 prints l (luma {size = size} {tx = tx} x y s t) =
@@ -319,19 +318,19 @@ prints l (pair {size = size} {tx = tx} {uvtx = uvtx} x y s t u) =
 
 -- ---- the promises
 
-never : (fs : List (List ℕ)) (l : ScriptLine) → Says fs l → l ≡ Form → ⊥
+never : (fs : List (List ℕ)) (l : Line) → Says fs l → l ≡ Form → ⊥
 never fs l (frame n₁ n₂ n₃ n₄ n₅ n₆) e = let z : ◌≡◌ {A = ℕ} 0 1 = cc in omega arith
 never fs l (level n₁ n₂ n₃ n₄) e = let z : ◌≡◌ {A = ℕ} 0 1 = cc in omega arith
 never fs l (block n₁ n₂ w₃ m₃ w₄ m₄ w₅ m₅) e = let z : ◌≡◌ {A = ℕ} 0 1 = cc in omega arith
 
-back_from : (s : List ℕ) (fs : List (List ℕ)) (l : ScriptLine) → Bytes s → Says fs l → s ≡ joined space fs → line_of s ≡ l
+back_from : (s : List ℕ) (fs : List (List ℕ)) (l : Line) → Bytes s → Says fs l → s ≡ joined space fs → line_of s ≡ l
 back_from s fs l b y e = ap line_of e ∙ back fs l (subst Bytes e b) y
 
 reads : (s : List ℕ) → Bytes s → Reads s (line_of s)
 reads s b =
     ⊎_elim (λ e. inr (e, λ fs m y z. never fs m y (sym (back_from s fs m b y z) ∙ e))) (λ p. inl p) (said s b)
 
-is_read : (s : List ℕ) (l : ScriptLine) → Bytes s → Reads s l → line_of s ≡ l
+is_read : (s : List ℕ) (l : Line) → Bytes s → Reads s l → line_of s ≡ l
 is_read s l b =
     ⊎_elim (λ p. back_from s p.0 l b p.1 p.2)
     (λ p. ⊎_elim (λ q. absurd (p.1 q.0 (line_of s) q.1 q.2)) (λ q. q.0 ∙ sym p.0) (reads s b))

@@ -18,7 +18,7 @@ use Rattle.list_fields.specs.Word.{packed, Bytes}
 use Rattle.list_fields.proofs.Words.{same}
 use Rattle.list_script.specs.Names.{first, block_name, tx_name, block_in, tx_in}
 use Rattle.list_script.specs.Promises.{Names, named, nameless}
-use Rattle.list_script.proofs.Tables.{first-none, first-hit}
+use Rattle.list_script.proofs.Tables.{first-none, first-hit, first-all}
 
 step-hit : (n : ℕ) (f : ℕ → Bool) → first n f ≡ n → f n ≡ true → first (suc n) f ≡ n
 unfolding first
@@ -49,10 +49,6 @@ found-step n f b p (inr q) =
 found : (n : ℕ) (f : ℕ → Bool) → Found n f
 found zero f = inl (first-none f, λ k l. absurd (omega arith))
 found (suc n) f = found-step n f (f n) refl (found n f)
-
-first-all : (n : ℕ) (f : ℕ → Bool) → ((k : ℕ) → k < n → f k ≡ false) → first n f ≡ n
-first-all n f h =
-    ⊎_elim (λ q. q.0) (λ q. absurd (false≢true (sym (h (first n f) q.0) ∙ q.1))) (found n f)
 
 -- ---- names
 

@@ -1,3 +1,4 @@
+pub mod Line
 pub mod Names
 pub mod Script
 pub mod Promises

@@ -13,8 +13,7 @@ use Rattle.list_fields.specs.Fields.{joined, without}
 use Rattle.list_fields.specs.Word.{Bytes}
 use Rattle.list_script.specs.Names.{block_name, tx_name, frame_word, level_word, block_word, intra_word, no_word}
 use Rattle.list_script.specs.Script.{space, line_of}
-use Rattle.list_script.specs.declared.ScriptLine.{ScriptLine}
-use Rattle.list_script.specs.declared.ScriptLine.TheVariants.{Frame, Level, Block, Form}
+use Rattle.list_script.specs.Line.{Line, Frame, Level, Block, Form}
 
 pub record Numeral (f : List ℕ) (n : ℕ) : Type 0 where
   pub digits : numeral f ≡ true
@@ -33,7 +32,7 @@ pub data Chroma : List ℕ → ℕ → ℕ → Type 0 where
   none : Chroma no_word 0 0
   given : {w : List ℕ} {t : ℕ} → (w ≡ no_word → ⊥) → Names 19 tx_name w t → Chroma w 1 t
 
-pub data Says : List (List ℕ) → ScriptLine → Type 0 where
+pub data Says : List (List ℕ) → Line → Type 0 where
   frame : {f₁ f₂ f₃ f₄ f₅ f₆ : List ℕ} {width height layout depth superblock sharpness : ℕ}
       → Numeral f₁ width → Numeral f₂ height → Numeral f₃ layout → Numeral f₄ depth → Numeral f₅ superblock → Numeral f₆ sharpness
       → Says (frame_word ∷ f₁ ∷ f₂ ∷ f₃ ∷ f₄ ∷ f₅ ∷ f₆ ∷ []) (Frame width height layout depth superblock sharpness)
@@ -47,12 +46,12 @@ pub data Says : List (List ℕ) → ScriptLine → Type 0 where
       → Word f₅ → Chroma f₅ chroma uvtx
       → Says (block_word ∷ f₁ ∷ f₂ ∷ f₃ ∷ f₄ ∷ f₅ ∷ intra_word ∷ []) (Block x y size tx chroma uvtx)
 
-abbrev pub Reads : List ℕ → ScriptLine → Type 0
+abbrev pub Reads : List ℕ → Line → Type 0
 Reads s l =
     ((fs : List (List ℕ)) × Says fs l × (s ≡ joined space fs))
-    ⊎ ((l ≡ Form) × ((fs : List (List ℕ)) (m : ScriptLine) → Says fs m → s ≡ joined space fs → ⊥))
+    ⊎ ((l ≡ Form) × ((fs : List (List ℕ)) (m : Line) → Says fs m → s ≡ joined space fs → ⊥))
 
-abbrev pub printed : ScriptLine → List (List ℕ)
+abbrev pub printed : Line → List (List ℕ)
 printed (Frame a b c d e f) = frame_word ∷ decimal a ∷ decimal b ∷ decimal c ∷ decimal d ∷ decimal e ∷ decimal f ∷ []
 printed (Level a b c d) = level_word ∷ decimal a ∷ decimal b ∷ decimal c ∷ decimal d ∷ []
 printed (Block x y size tx chroma uvtx) =
@@ -60,7 +59,7 @@ printed (Block x y size tx chroma uvtx) =
 printed Form = []
 
 -- what a script can say: numbers below 10 ^ 9, sizes that there are
-pub data Sayable : ScriptLine → Type 0 where
+pub data Sayable : Line → Type 0 where
   frame : {a b c d e f : ℕ} → a < 1000000000 → b < 1000000000 → c < 1000000000 → d < 1000000000 → e < 1000000000 → f < 1000000000 → Sayable (Frame a b c d e f)
   level : {a b c d : ℕ} → a < 1000000000 → b < 1000000000 → c < 1000000000 → d < 1000000000 → Sayable (Level a b c d)
   luma : {x y size tx : ℕ} → x < 1000000000 → y < 1000000000 → size < 22 → tx < 19 → Sayable (Block x y size tx 0 0)
@@ -68,8 +67,8 @@ pub data Sayable : ScriptLine → Type 0 where
 
 pub record Promises : Type 0 where
   -- what is printed of a line is read back as that line, and nothing else is read as a line
-  pub back : (fs : List (List ℕ)) (l : ScriptLine) → Bytes (joined space fs) → Says fs l → line_of (joined space fs) ≡ l
+  pub back : (fs : List (List ℕ)) (l : Line) → Bytes (joined space fs) → Says fs l → line_of (joined space fs) ≡ l
   -- each line is printed
-  pub prints : (l : ScriptLine) → Sayable l → Says (printed l) l
+  pub prints : (l : Line) → Sayable l → Says (printed l) l
   pub reads : (s : List ℕ) → Bytes s → Reads s (line_of s)
-  pub unique : (s : List ℕ) (l m : ScriptLine) → Bytes s → Reads s l → Reads s m → l ≡ m
+  pub unique : (s : List ℕ) (l m : Line) → Bytes s → Reads s l → Reads s m → l ≡ m

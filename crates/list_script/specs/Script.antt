@@ -15,8 +15,7 @@ use Rattle.list_decimal.specs.Decimal.{number_of, no_number}
 use Rattle.list_fields.specs.Fields.{place, field, parted}
 use Rattle.list_fields.specs.Word.{packed}
 use Rattle.list_script.specs.Names.{block_code, tx_code, frame_word, level_word, block_word, intra_word, no_word}
-use Rattle.list_script.specs.declared.ScriptLine.{ScriptLine}
-use Rattle.list_script.specs.declared.ScriptLine.TheVariants.{Frame, Level, Block, Form}
+use Rattle.list_script.specs.Line.{Line, Frame, Level, Block, Form}
 
 abbrev pub space : ℕ
 space = 32
@@ -47,23 +46,23 @@ chroma_of w = cond (eqb (packed w) (packed no_word)) 0 1
 abbrev pub uvtx_of : List ℕ → ℕ
 uvtx_of w = cond (eqb (packed w) (packed no_word)) 0 (tx_code w)
 
-unfoldable pub frame_of : List ℕ → ScriptLine
+unfoldable pub frame_of : List ℕ → Line
 frame_of s =
     cond (no_numbers s 6) Form
     (Frame (number_at s 1) (number_at s 2) (number_at s 3) (number_at s 4) (number_at s 5) (number_at s 6))
 
-unfoldable pub level_of : List ℕ → ScriptLine
+unfoldable pub level_of : List ℕ → Line
 level_of s =
     cond (not (is_word s 0 level_word) || no_numbers s 4) Form (Level (number_at s 1) (number_at s 2) (number_at s 3) (number_at s 4))
 
-unfoldable pub block_of : List ℕ → ScriptLine
+unfoldable pub block_of : List ℕ → Line
 block_of s =
     cond (no_numbers s 2 || no_words s || not (is_word s 6 intra_word)) Form
     (Block (number_at s 1) (number_at s 2) (block_code (at s 3)) (tx_code (at s 4)) (chroma_of (at s 5)) (uvtx_of (at s 5)))
 
-unfoldable pub seven_of : List ℕ → ScriptLine
+unfoldable pub seven_of : List ℕ → Line
 seven_of s = cond (is_word s 0 frame_word) (frame_of s) (cond (is_word s 0 block_word) (block_of s) Form)
 
-unfoldable pub line_of : List ℕ → ScriptLine
+unfoldable pub line_of : List ℕ → Line
 line_of s =
     cond (parted space s 5) (level_of s) (cond (parted space s 7) (seven_of s) Form)

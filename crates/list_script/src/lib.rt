@@ -3,198 +3,170 @@
 
 mod names;
 
-ghost use Rattle.std.specs.Prelude.{◌≡◌, cond, eqb, ◌+◌, ◌<◌, ◌≤◌, length};
+ghost use Rattle.std.specs.Prelude.{◌≡◌, ◌↔◌, eqb, true, ◌+◌, ◌<◌, ◌≤◌, length, IsNone, IfSome};
+ghost use Rattle.loops.specs.Table.{tabulate};
+ghost use Rattle.list_decimal.specs.Decimal.{no_number};
 ghost use Rattle.list_fields.specs.Fields.{place};
 ghost use Rattle.list_fields.specs.Word.{packed};
-ghost use Rattle.list_script.specs.Names.{no_word, tx_in};
+ghost use Rattle.list_script.specs.Line.{chroma_code, chroma_flag, line_said};
 ghost use Rattle.list_script.specs.Promises.{Promises};
-ghost use Rattle.list_script.specs.Script.{space, Has, at, number_at, no_numbers, no_words, frame_of, level_of, block_of, seven_of, line_of};
+ghost use Rattle.list_script.specs.Script.{space, Has, at, number_at, no_numbers, no_words, chroma_of, uvtx_of, frame_of, level_of, block_of, seven_of, line_of};
 
-use list_decimal::{NO_NUMBER, number};
+use list_decimal::number;
 use list_fields::{end_of, start_of, word};
 use names::{block_code, tx_code};
 
-const SPACE: u8 = 32;
+const SPACE: u8 = b' ';
 
-const FRAME: u64 = 0x01_66_72_61_6D_65;
+#[derive(Clone, Copy, Debug, PartialEq, Eq)]
+pub struct FrameLine {
+    pub width: u32,
+    pub height: u32,
+    pub layout: u32,
+    pub depth: u32,
+    pub superblock: u32,
+    pub sharpness: u32,
+}
 
-const LEVEL: u64 = 0x01_6C_65_76_65_6C;
+#[derive(Clone, Copy, Debug, PartialEq, Eq)]
+pub struct LevelLine {
+    pub columns: u32,
+    pub rows: u32,
+    pub u: u32,
+    pub v: u32,
+}
 
-const BLOCK: u64 = 0x01_62_6C_6F_63_6B;
+// Codes as `record_intra` takes them: 22 and 19 are sizes that name nothing, which it refuses. uvtx is None for a block without chroma.
+#[derive(Clone, Copy, Debug, PartialEq, Eq)]
+pub struct BlockLine {
+    pub x: u32,
+    pub y: u32,
+    pub size: u32,
+    pub tx: u32,
+    pub uvtx: Option<u32>,
+}
 
-const INTRA: u64 = 0x01_49;
-
-const NONE: u64 = 0x01_2D;
-
-const EMPTY: u64 = 1;
-
-// Codes as `record_intra` takes them: 22 and 19 are sizes that name nothing.
-#[derive(Clone, Copy)]
+#[derive(Clone, Copy, Debug, PartialEq, Eq)]
 pub enum ScriptLine {
-    Frame {
-        width: u32,
-        height: u32,
-        layout: u32,
-        depth: u32,
-        superblock: u32,
-        sharpness: u32,
-    },
-    Level {
-        columns: u32,
-        rows: u32,
-        u: u32,
-        v: u32,
-    },
-    Block {
-        x: u32,
-        y: u32,
-        size: u32,
-        tx: u32,
-        chroma: u32,
-        uvtx: u32,
-    },
-    Form,
+    Frame(FrameLine),
+    Level(LevelLine),
+    Block(BlockLine),
 }
 
-fn number_at(s: &[u8], k: usize) -> u32
+fn field_at(s: &[u8], k: usize) -> &[u8]
     requires { (place space s.now k ≤ length s.now) × (length s.now + k < 18446744073709551615) }
-    ensures { result ≡ number_at s.now k }
+    ensures { result.now ≡ at s.now k }
 {
-    let a = start_of(s, SPACE, k);
-    let e = end_of(s, a, SPACE);
-    number(&s[a..e])
+    let start = start_of(s, SPACE, k);
+    &s[start..end_of(s, start, SPACE)]
 }
 
-fn word_at(s: &[u8], k: usize) -> u64
-    requires { (place space s.now k ≤ length s.now) × (length s.now + k < 18446744073709551615) }
-    ensures { result ≡ packed (at s.now k) }
+// Fields 1 to N.
+fn numbers<const N: usize>(s: &[u8]) -> Option<[u32; N]>
+    requires { Has s.now (N + 1) }
+    ensures none { IsNone result ↔ (no_numbers s.now N ≡ true) }
+    ensures some { IfSome result (λ ns. ns ≡ tabulate (λ k. number_at s.now (k + 1)) N) }
 {
-    let a = start_of(s, SPACE, k);
-    let e = end_of(s, a, SPACE);
-    word(&s[a..e])
-}
-
-// Of the n fields from field 1 on.
-fn no_numbers(s: &[u8], n: usize) -> bool
-    requires { Has s.now (n + 1) }
-    ensures { result ≡ no_numbers s.now n }
-{
-    let mut k = 0;
-    while k < n {
-        if number_at(s, k + 1) == NO_NUMBER {
-            return true;
-        }
-        k += 1;
+    let mut numbers = [0; N];
+    for (k, n) in numbers.iter_mut().enumerate() {
+        *n = number(field_at(s, k + 1))?;
     }
-    false
+    Some(numbers)
 }
 
+fn frame(s: &[u8]) -> Option<ScriptLine>
+    requires { Has s.now 7 }
+    ensures { line_said result ≡ frame_of s.now }
+{
+    let [width, height, layout, depth, superblock, sharpness] = numbers::<6>(s)?;
+    Some(ScriptLine::Frame(FrameLine {
+        width,
+        height,
+        layout,
+        depth,
+        superblock,
+        sharpness,
+    }))
+}
+
+fn level(s: &[u8]) -> Option<ScriptLine>
+    requires { Has s.now 5 }
+    ensures { line_said result ≡ level_of s.now }
+{
+    if word(field_at(s, 0)) != word(b"level") {
+        return None;
+    }
+    let [columns, rows, u, v] = numbers::<4>(s)?;
+    Some(ScriptLine::Level(LevelLine {
+        columns,
+        rows,
+        u,
+        v,
+    }))
+}
+
+// The sizes of a block line.
 fn no_words(s: &[u8]) -> bool
     requires { Has s.now 7 }
     ensures { result ≡ no_words s.now }
 {
-    (word_at(s, 3) == EMPTY) | (word_at(s, 4) == EMPTY) | (word_at(s, 5) == EMPTY)
+    word(field_at(s, 3)) == word(b"")
+        || word(field_at(s, 4)) == word(b"")
+        || word(field_at(s, 5)) == word(b"")
 }
 
-fn chroma_of(w: u64) -> u32
-    ensures { result ≡ cond (eqb w (packed no_word)) 0 1 }
+fn uvtx(w: &[u8]) -> Option<u32>
+    ensures { (chroma_flag result ≡ chroma_of w.now) × (chroma_code result ≡ uvtx_of w.now) }
 {
-    if w == NONE { 0 } else { 1 }
-}
-
-fn uvtx_of(w: u64) -> u32
-    ensures { result ≡ cond (eqb w (packed no_word)) 0 (tx_in w) }
-{
-    if w == NONE {
-        return 0;
+    if word(w) == word(b"-") {
+        return None;
     }
-    tx_code(w)
+    Some(tx_code(word(w)))
 }
 
-fn frame(s: &[u8]) -> ScriptLine
+fn block(s: &[u8]) -> Option<ScriptLine>
     requires { Has s.now 7 }
-    ensures { result ≡ frame_of s.now }
+    ensures { line_said result ≡ block_of s.now }
 {
-    if no_numbers(s, 6) {
-        return ScriptLine::Form;
+    let [x, y] = numbers::<2>(s)?;
+    if no_words(s) || word(field_at(s, 6)) != word(b"I") {
+        return None;
     }
-    ScriptLine::Frame {
-        width: number_at(s, 1),
-        height: number_at(s, 2),
-        layout: number_at(s, 3),
-        depth: number_at(s, 4),
-        superblock: number_at(s, 5),
-        sharpness: number_at(s, 6),
-    }
+    Some(ScriptLine::Block(BlockLine {
+        x,
+        y,
+        size: block_code(word(field_at(s, 3))),
+        tx: tx_code(word(field_at(s, 4))),
+        uvtx: uvtx(field_at(s, 5)),
+    }))
 }
 
-fn level(s: &[u8]) -> ScriptLine
-    requires { Has s.now 5 }
-    ensures { result ≡ level_of s.now }
-{
-    if word_at(s, 0) != LEVEL {
-        return ScriptLine::Form;
-    }
-    if no_numbers(s, 4) {
-        return ScriptLine::Form;
-    }
-    ScriptLine::Level {
-        columns: number_at(s, 1),
-        rows: number_at(s, 2),
-        u: number_at(s, 3),
-        v: number_at(s, 4),
-    }
-}
-
-fn block(s: &[u8]) -> ScriptLine
+fn seven(s: &[u8]) -> Option<ScriptLine>
     requires { Has s.now 7 }
-    ensures { result ≡ block_of s.now }
+    ensures { line_said result ≡ seven_of s.now }
 {
-    if no_numbers(s, 2) {
-        return ScriptLine::Form;
-    }
-    if no_words(s) {
-        return ScriptLine::Form;
-    }
-    if word_at(s, 6) != INTRA {
-        return ScriptLine::Form;
-    }
-    let uv = word_at(s, 5);
-    ScriptLine::Block {
-        x: number_at(s, 1),
-        y: number_at(s, 2),
-        size: block_code(word_at(s, 3)),
-        tx: tx_code(word_at(s, 4)),
-        chroma: chroma_of(uv),
-        uvtx: uvtx_of(uv),
+    let w = word(field_at(s, 0));
+    if w == word(b"frame") {
+        frame(s)
+    } else if w == word(b"block") {
+        block(s)
+    } else {
+        None
     }
 }
 
-fn seven(s: &[u8]) -> ScriptLine
-    requires { Has s.now 7 }
-    ensures { result ≡ seven_of s.now }
-{
-    let w = word_at(s, 0);
-    if w == FRAME {
-        return frame(s);
-    }
-    if w == BLOCK {
-        return block(s);
-    }
-    ScriptLine::Form
-}
-
-pub fn read_line(s: &[u8]) -> ScriptLine
+// None for what is no line of a script.
+pub fn read_line(s: &[u8]) -> Option<ScriptLine>
     requires { length s.now < 9223372036854775808 }
-    ensures { result ≡ line_of s.now }
+    ensures { line_said result ≡ line_of s.now }
 {
     if start_of(s, SPACE, 5) == s.len() + 1 {
-        return level(s);
+        level(s)
+    } else if start_of(s, SPACE, 7) == s.len() + 1 {
+        seven(s)
+    } else {
+        None
     }
-    if start_of(s, SPACE, 7) == s.len() + 1 {
-        return seven(s);
-    }
-    ScriptLine::Form
 }
 
 // The theorems of specs/Promises.antt are proved.

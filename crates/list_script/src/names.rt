@@ -1,6 +1,6 @@
 // Names of sizes, as numbers of words.
-ghost use Rattle.std.specs.Prelude.{◌≡◌};
-ghost use Rattle.list_script.specs.Names.{block_in, tx_in};
+ghost use Rattle.std.specs.Prelude.{◌≡◌, ◌<◌, eqb, slice_index};
+ghost use Rattle.list_script.specs.Names.{first, block_in, tx_in};
 
 const BLOCKS: [u64; 22] = [
     0x01_34_78_34, // 4x4
@@ -49,28 +49,22 @@ const TRANSFORMS: [u64; 19] = [
     0x01_36_34_78_31_36, // 64x16
 ];
 
+// The place of the name w in the table, N for none.
+fn code_in<const N: usize>(names: &[u64; N], w: u64) -> u32
+    requires { N < 100 }
+    ensures { result ≡ first N (λ c. eqb (slice_index names.now c) w) }
+{
+    names.iter().position(|&name| name == w).unwrap_or(N) as u32
+}
+
 pub fn block_code(w: u64) -> u32
     ensures { result ≡ block_in w }
 {
-    let mut c: u32 = 0;
-    while c < 22 {
-        if BLOCKS[c as usize] == w {
-            return c;
-        }
-        c += 1;
-    }
-    22
+    code_in(&BLOCKS, w)
 }
 
 pub fn tx_code(w: u64) -> u32
     ensures { result ≡ tx_in w }
 {
-    let mut c: u32 = 0;
-    while c < 19 {
-        if TRANSFORMS[c as usize] == w {
-            return c;
-        }
-        c += 1;
-    }
-    19
+    code_in(&TRANSFORMS, w)
 }

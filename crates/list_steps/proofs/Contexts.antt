@@ -1,20 +1,26 @@
 -- The contexts from a block on: a place past the end lends the same empty part as the end, and what recording leaves of each part is put back behind what stands before it.
 use mathlib.Core.List.{List, [], ◌++◌, append-nil}
 use mathlib.Core.Logic.{by_cases}
-use mathlib.Core.Path.{◌≡◌, refl, sym, ap, ◌∙◌}
-use Prim.Native.Nat.{ℕ, ◌-◌, min}
+use mathlib.Core.Path.{◌≡◌, refl, sym, ap, ap₂, ◌∙◌}
+use Prim.Native.Nat.{ℕ, ◌+◌, ◌-◌, ◌/◌, ◌%◌, min}
 use native.Mathlib.Decide.{dec_le}
 use native.Mathlib.Omega.{arith}
 use borrow.Rule.Slice.PartMut.{mid_of, put_mid}
 use borrow.Author.Tests.{eq-eqb, ne_eqb}
 use lib.ListN.{length, take, drop, drop_of_length-le, length-drop}
 use lib.Seq.{take_all}
+use mir.Val.{bool_byte}
+use Rattle.std.proofs.Common.{Option, None, Some}
+use Rattle.std.specs.Option.{is_some}
+use Rattle.list_script.specs.Line.{chroma_flag, chroma_code}
+use Rattle.list_script.specs.declared.BlockLine.{BlockLine}
 use Rattle.block.specs.declared.Block.{Block}
 use Rattle.block.specs.Block.{w4, Lent, lent, cx, cy, at_block}
 use Rattle.block.specs.Tests.{number}
 use Rattle.record.specs.Record.{luma_above, luma_left, chroma_above, chroma_left, RecordAnswer}
+use Rattle.list_steps.specs.State.{State, state_is}
 use Rattle.list_steps.specs.declared.Carried.{Carried}
-use Rattle.list_steps.specs.Steps.{Kept, kept, with_state, kept_of, refused_by, from, stored, blocked}
+use Rattle.list_steps.specs.Steps.{Kept, block_of, kept, kept_of, refused, from, stored, blocked}
 
 abbrev end : ℕ → List ℕ → List ℕ
 end i l = mid_of i (64 - i) l
@@ -23,7 +29,7 @@ abbrev put : ℕ → List ℕ → List ℕ → List ℕ
 put i l a = put_mid i (64 - i) l a
 
 abbrev Cut : ℕ → List ℕ → ℕ → Type 0
-Cut at l i = (i ≡ min at (length l)) × (length l ≡ 64)
+Cut at l i = (i ≡ min at 64) × (length l ≡ 64)
 
 module _ (at : ℕ) (l : List ℕ) {i : ℕ} (cut : Cut at l i) where
   end_is : end i l ≡ drop i l
@@ -48,6 +54,17 @@ module _ (at : ℕ) (l : List ℕ) {i : ℕ} (cut : Cut at l i) where
   put-cut : (f : List ℕ → List ℕ) {a : List ℕ} → a ≡ f (end i l) → put i l a ≡ from at f l
   put-cut f {a} g = put_is a ∙ rw (take-cut, g, end-cut) refl
 
+pub rounded-up : (w : ℕ) → w / 4 + min 1 (w % 4) ≡ (w + 3) / 4
+rounded-up w = omega arith
+
+flagged : (o : Option ℕ) → bool_byte (is_some o) ≡ chroma_flag o
+flagged None = refl
+flagged (Some t) = refl
+
+pub of-chroma : (k : Kept) (s : State) (b : BlockLine) {f t : ℕ} → f ≡ bool_byte (is_some b.uvtx) → t ≡ chroma_code b.uvtx
+    → blocked k (block_of s b.x b.y b.size b.tx f t) ≡ blocked k (block_of s b.x b.y b.size b.tx (chroma_flag b.uvtx) (chroma_code b.uvtx))
+of-chroma k s b p q = ap₂ (λ (f t : ℕ). blocked k (block_of s b.x b.y b.size b.tx f t)) (p ∙ flagged b.uvtx) q
+
 lents : (m : Lent) (ls ms a l u v : List ℕ) → ls ≡ m.levels → ms ≡ m.masks → a ≡ m.above → l ≡ m.left → u ≡ m.above-uv → v ≡ m.left-uv
     → lent ls ms a l u v ≡ m
 lents m ls ms a l u v e f g h i j = rw (e, f, g, h, i, j) refl
@@ -67,14 +84,14 @@ module _ (c : Carried) (levels masks : List ℕ) (b : Block) {r level-stride i j
     number_is : r ≡ number b (w4 b) (at_block b k.memory)
     number_is = rw (st, ends-are.0, ends-are.1, ends-are.2, ends-are.3) at g.code
 
-    pub block_refused : {o : Carried} → ¬ (r ≡ 0) → o ≡ with_state c (refused_by c.state r) → kept_of o ls ms ≡ blocked k b
+    pub block_refused : {o : Kept} → ¬ (r ≡ 0) → o ≡ refused (kept_of c ls ms) r → o ≡ blocked k b
     unfolding blocked
     block_refused z e =
         let same = lents k.memory ls ms _ _ _ _ (rw (ne_eqb r 0 z) at g.levels) (rw (ne_eqb r 0 z) at g.masks) refl refl refl refl in
         rw (e, same, ← number_is, ne_eqb r 0 z) refl
 
     pub block-done : r ≡ 0
-        → kept c.state c.values (lent ls ms (put i c.above a) (put j c.left l) (put p c.above_uv u) (put q c.left_uv v)) ≡ blocked k b
+        → kept (state_is c.state) c.values (lent ls ms (put i c.above a) (put j c.left l) (put p c.above_uv u) (put q c.left_uv v)) ≡ blocked k b
     unfolding blocked
     block-done z =
         let d = eq-eqb r 0 z in

@@ -1,3 +1,4 @@
+pub mod Faults
 pub mod Values
 pub mod Contexts
 pub mod Lines

@@ -1,15 +1,15 @@
 -- What a line does, case by case: the line comes out of turn, its number refuses it, or it is done; each rewrites the definition by its tests.
 use mathlib.Core.Bool.{cond}
 use mathlib.Core.List.{List}
-use mathlib.Core.Path.{◌≡◌, refl, sym, ◌∙◌}
+use mathlib.Core.Path.{◌≡◌, refl}
 use Prim.Native.Nat.{ℕ}
 use borrow.Author.Tests.{eq-eqb, ne_eqb}
 use lib.Dec.{eqb}
 use Rattle.loops.specs.Table.{tabulate}
 use Rattle.levels.specs.Levels.{byte_at, levels_number}
-use Rattle.list_script.specs.declared.ScriptLine.{ScriptLine}
-use Rattle.list_script.specs.declared.ScriptLine.TheVariants.{Frame, Level, Block as BlockLine}
-use Rattle.list_steps.specs.Steps.{form, said, Kept, kept, state_of, counted, refused, frame_number, framed, bases, levelled, block_of, blocked, taken, step_of}
+use Rattle.list_script.specs.Line.{Frame, Level, Block as BlockLine}
+use Rattle.list_steps.specs.State.{form, state_of}
+use Rattle.list_steps.specs.Steps.{said, Kept, kept, counted, refused, frame_number, framed, bases, levelled, block_of, blocked, taken, step_of}
 
 -- ---- a frame line
 
@@ -59,7 +59,6 @@ module _ (k : Kept) (line : List ℕ) where
   unfolding step_of
   step-none z = rw (ne_eqb k.state.number 0 z) refl
 
-  pub step-taken : {t o : Kept} {w l : ScriptLine} → k.state.number ≡ 0 → t ≡ kept (counted k.state) k.values k.memory → w ≡ said line → w ≡ l → o ≡ taken t l
-      → o ≡ step_of k line
+  pub step-taken : {o : Kept} → k.state.number ≡ 0 → o ≡ taken (kept (counted k.state) k.values k.memory) (said line) → o ≡ step_of k line
   unfolding step_of
-  step-taken z e f g h = let p = sym f ∙ g in rw (eq-eqb k.state.number 0 z, p) (rw e at h)
+  step-taken z h = rw (eq-eqb k.state.number 0 z) h

@@ -19,9 +19,9 @@ use Rattle.block.specs.declared.Block.{Block}
 use Rattle.block.specs.Block.{w4, Lent, at_block}
 use Rattle.block.specs.Tests.{number}
 use Rattle.record.specs.Recorded.{Stored}
-use Rattle.list_script.specs.declared.ScriptLine.{ScriptLine}
-use Rattle.list_script.specs.declared.ScriptLine.TheVariants.{Frame, Level, Block as BlockLine, Form}
-use Rattle.list_steps.specs.Steps.{form, said, Kept, kept, state_of, counted, refused, side_ok, depth_ok, frame_number, framed, bases, levelled, block_of, stored, blocked, taken, step_of}
+use Rattle.list_script.specs.Line.{Line, Frame, Level, Block as BlockLine, Form}
+use Rattle.list_steps.specs.State.{form, state_of}
+use Rattle.list_steps.specs.Steps.{said, Kept, kept, counted, refused, side_ok, depth_ok, frame_number, framed, bases, levelled, block_of, stored, blocked, taken, step_of}
 use Rattle.list_steps.specs.Promises.{Proper, Alike, Before, Promises}
 use Rattle.list_steps.proofs.Stores.{stored_is, stored-alike, stored-before}
 
@@ -33,8 +33,8 @@ Accepts k b = number b (w4 b) (at_block b k.memory) ≡ 0
 abbrev recorded : Kept → Block → Kept
 recorded k b = kept k.state k.values (stored b k.values k.memory)
 
-data Outcome (k : Kept) : ScriptLine → Kept → Type 0 where
-  refuses : {l : ScriptLine} (n : ℕ) → ¬ (n ≡ 0) → Outcome k l (refused k n)
+data Outcome (k : Kept) : Line → Kept → Type 0 where
+  refuses : {l : Line} (n : ℕ) → ¬ (n ≡ 0) → Outcome k l (refused k n)
   begins : {width height layout depth superblock sharpness : ℕ} → frame_number width height layout depth superblock sharpness ≡ 0
       → Outcome k (Frame width height layout depth superblock sharpness) (kept (state_of k.state.line 1 0 width height layout) k.values k.memory)
   levels : {columns rows u v : ℕ} → k.state.phase ≡ 1
@@ -44,7 +44,7 @@ data Outcome (k : Kept) : ScriptLine → Kept → Type 0 where
       → Accepts k (block_of k.state x y size tx chroma uvtx)
       → Outcome k (BlockLine x y size tx chroma uvtx) (recorded k (block_of k.state x y size tx chroma uvtx))
 
-outcome : (k : Kept) (l : ScriptLine) → Outcome k l (taken k l)
+outcome : (k : Kept) (l : Line) → Outcome k l (taken k l)
 unfolding framed levelled blocked
 outcome k (Frame width height layout depth superblock sharpness) =
     let n = frame_number width height layout depth superblock sharpness in
@@ -92,7 +92,7 @@ frame-fits width height layout depth superblock sharpness e =
     (reflects-and (reflects-flag (layout_ok layout)) (reflects-and (reflects-side width) (reflects-and (reflects-side height) (reflects-flag (superblock_ok superblock))))
     ).yes (accepted (layout_ok layout && (side_ok width && (side_ok height && superblock_ok superblock))) f)
 
-proper : {k j : Kept} {l : ScriptLine} → Outcome k l j → Proper k.state → Proper j.state
+proper : {k j : Kept} {l : Line} → Outcome k l j → Proper k.state → Proper j.state
 proper (refuses n z) p = record { width = p.width; height = p.height; layout = p.layout }
 proper (begins {width} {height} {layout} {depth} {superblock} {sharpness} e) p =
     let f = frame-fits width height layout depth superblock sharpness e in
@@ -108,41 +108,41 @@ alike_same m = record { levels = refl; masks = refl; above = refl; left = refl; 
 before_same : (b : Block) (m : Lent) → Before b m m
 before_same b m = record { above = refl; left = refl; above-uv = refl; left-uv = refl }
 
-alike : {k j : Kept} {l : ScriptLine} → Outcome k l j → Alike j.memory k.memory
+alike : {k j : Kept} {l : Line} → Outcome k l j → Alike j.memory k.memory
 alike {k} (refuses n z) = alike_same k.memory
 alike {k} (begins e) = alike_same k.memory
 alike {k} (levels e) = alike_same k.memory
 alike {k} (records {x} {y} {size} {tx} {chroma} {uvtx} e) = stored-alike (block_of k.state x y size tx chroma uvtx) k.values k.memory e
 
 -- the block that a line says; 0s for a line that says none
-abbrev block_said : Kept → ScriptLine → Block
+abbrev block_said : Kept → Line → Block
 block_said k (BlockLine x y size tx chroma uvtx) = block_of k.state x y size tx chroma uvtx
 block_said k l = block_of k.state 0 0 0 0 0 0
 
-abbrev SaysBlock : ScriptLine → Type 0
+abbrev SaysBlock : Line → Type 0
 SaysBlock (BlockLine x y size tx chroma uvtx) = Unit {0}
 SaysBlock l = ⊥
 
-as-recorded : {k j : Kept} {l : ScriptLine} → Outcome k l j → SaysBlock l → j.state.number ≡ 0
+as-recorded : {k j : Kept} {l : Line} → Outcome k l j → SaysBlock l → j.state.number ≡ 0
     → let b = block_said k l in Stored b (w4 b) k.values [] (at_block b k.memory) (at_block b j.memory)
 as-recorded (refuses n z) i e = absurd (z e)
 as-recorded (begins z) i e = absurd i
 as-recorded (levels z) i e = absurd i
 as-recorded {k} (records {x} {y} {size} {tx} {chroma} {uvtx} z) i e = stored_is (block_of k.state x y size tx chroma uvtx) k.values k.memory z
 
-as_before : {k j : Kept} {l : ScriptLine} → Outcome k l j → SaysBlock l → Before (block_said k l) j.memory k.memory
+as_before : {k j : Kept} {l : Line} → Outcome k l j → SaysBlock l → Before (block_said k l) j.memory k.memory
 as_before {k} {l = l} (refuses n z) i = before_same (block_said k l) k.memory
 as_before (begins z) i = absurd i
 as_before (levels z) i = absurd i
 as_before {k} (records {x} {y} {size} {tx} {chroma} {uvtx} z) i = stored-before (block_of k.state x y size tx chroma uvtx) k.values k.memory z
 
-keeps : {k j : Kept} {l : ScriptLine} → Outcome k l j → ((x y size tx chroma uvtx : ℕ) → ¬ (l ≡ BlockLine x y size tx chroma uvtx)) → j.memory ≡ k.memory
+keeps : {k j : Kept} {l : Line} → Outcome k l j → ((x y size tx chroma uvtx : ℕ) → ¬ (l ≡ BlockLine x y size tx chroma uvtx)) → j.memory ≡ k.memory
 keeps (refuses n z) h = refl
 keeps (begins e) h = refl
 keeps (levels e) h = refl
 keeps (records {x} {y} {size} {tx} {chroma} {uvtx} e) h = absurd (h x y size tx chroma uvtx refl)
 
-refused-keeps : {k j : Kept} {l : ScriptLine} → Outcome k l j → k.state.number ≡ 0 → ¬ (j.state.number ≡ 0) → j.memory ≡ k.memory
+refused-keeps : {k j : Kept} {l : Line} → Outcome k l j → k.state.number ≡ 0 → ¬ (j.state.number ≡ 0) → j.memory ≡ k.memory
 refused-keeps (refuses n z) e h = refl
 refused-keeps (begins f) e h = refl
 refused-keeps (levels f) e h = refl

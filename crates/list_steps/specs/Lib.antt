@@ -1,2 +1,3 @@
+pub mod State
 pub mod Steps
 pub mod Promises

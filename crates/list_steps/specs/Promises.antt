@@ -8,8 +8,8 @@ use Rattle.units.specs.Layout.{layout_ok}
 use Rattle.block.specs.declared.Block.{Block}
 use Rattle.block.specs.Block.{w4, Lent, cx, cy, at_block}
 use Rattle.record.specs.Recorded.{Stored}
-use Rattle.list_script.specs.declared.ScriptLine.TheVariants.{Block as BlockLine}
-use Rattle.list_steps.specs.declared.State.{State}
+use Rattle.list_script.specs.Line.{Block as BlockLine}
+use Rattle.list_steps.specs.State.{State}
 use Rattle.list_steps.specs.Steps.{Kept, said, block_of, step_of}
 
 pub record Proper (s : State) : Type 0 where

@@ -1,9 +1,9 @@
 -- A script, line after line: document 01, "Edge listing".
---   form                 stands for the word `form` where a number stands, and is none
 --   longest, said s      the bytes of the longest line; what the line s says
 --   Kept, kept           what is kept from line to line: the frame, how far the script is, the level values and the lent memory
---   with_state, kept_of    what goes by value with another state; what is kept, of it and of the two lent lists
---   state_of, counted     a state of its fields; with one line more
+--   kept_of              what is kept, of what goes by value and of the two lent lists
+--   after_line c r       what goes on after a line: what it leaves, or the state before, refused
+--   counted              with one line more
 --   refused_by, refused   the line is refused with the number n
 --   side_ok, depth_ok, frame_number   of a frame line; sides are 1 to 256 samples
 --   framed               and after it
@@ -13,7 +13,7 @@
 --   blocked              after a block line
 --   taken k l            after the line l, which k has counted
 --   step_of k s           after the line s in bytes; nothing changes once a line is refused
-use Rattle.std.specs.Prelude.{Bool, cond, not, ◌&&◌, ◌||◌, List, [], ◌∷◌, ◌++◌, ℕ, ◌+◌, eqb, leb, ltb, pos, length, take, drop, replicate}
+use Rattle.std.specs.Prelude.{Bool, Some, Result, Ok, Err, cond, not, ◌&&◌, ◌||◌, List, [], ◌∷◌, ◌++◌, ℕ, ◌+◌, eqb, leb, ltb, pos, length, take, drop, replicate}
 use Rattle.loops.specs.Table.{tabulate}
 use Rattle.loops.specs.Flag.{on}
 use Rattle.units.specs.Layout.{layout_ok}
@@ -24,18 +24,15 @@ use Rattle.block.specs.Block.{w4, Lent, lent, cx, cy, at_block}
 use Rattle.block.specs.Tests.{number}
 use Rattle.record.specs.Record.{intra_of, luma_levels, chroma_levels, luma_masks, chroma_masks, luma_above, luma_left, chroma_above, chroma_left}
 use Rattle.list_script.specs.Script.{line_of}
-use Rattle.list_script.specs.declared.ScriptLine.{ScriptLine}
-use Rattle.list_script.specs.declared.ScriptLine.TheVariants.{Frame, Level, Block as BlockLine, Form}
-use Rattle.list_steps.specs.declared.State.{State}
+use Rattle.list_script.specs.Line.{Line, Frame, Level, Block as BlockLine, Form}
+use Rattle.list_steps.specs.State.{State, form, state_of, state_is, fault_number}
+use Rattle.list_steps.specs.declared.Fault.{Fault}
 use Rattle.list_steps.specs.declared.Carried.{Carried}
-
-abbrev pub form : ℕ
-form = 1000
 
 abbrev pub longest : ℕ
 longest = 65535
 
-unfoldable pub said : List ℕ → ScriptLine
+unfoldable pub said : List ℕ → Line
 said s = cond (ltb longest (length s)) Form (line_of s)
 
 pub record Kept : Type 0 where
@@ -46,16 +43,8 @@ pub record Kept : Type 0 where
 abbrev pub kept : State → List ℕ → Lent → Kept
 kept s values m = record { state = s; values = values; memory = m }
 
-abbrev pub with_state : Carried → State → Carried
-with_state c s =
-    record { state = s; values = c.values; above = c.above; left = c.left; above_uv = c.above_uv; left_uv = c.left_uv }
-
 abbrev pub kept_of : Carried → List ℕ → List ℕ → Kept
-kept_of c levels masks = kept c.state c.values (lent levels masks c.above c.left c.above_uv c.left_uv)
-
-abbrev pub state_of : ℕ → ℕ → ℕ → ℕ → ℕ → ℕ → State
-state_of line phase number width height layout =
-    record { line = line; phase = phase; number = number; width = width; height = height; layout = layout }
+kept_of c levels masks = kept (state_is c.state) c.values (lent levels masks c.above c.left c.above_uv c.left_uv)
 
 abbrev pub counted : State → State
 counted s = state_of (s.line + 1) s.phase s.number s.width s.height s.layout
@@ -65,6 +54,10 @@ refused_by s n = state_of s.line s.phase n s.width s.height s.layout
 
 abbrev pub refused : Kept → ℕ → Kept
 refused k n = kept (refused_by k.state n) k.values k.memory
+
+abbrev pub after_line : Carried → List ℕ → List ℕ → Result Carried Fault → Kept
+after_line c levels masks (Ok d) = kept_of d levels masks
+after_line c levels masks (Err f) = refused (kept_of c levels masks) (fault_number (Some f))
 
 -- ---- a frame line
 
@@ -127,7 +120,7 @@ blocked k b =
 -- ---- any line
 
 -- frame, level and block lines come in phase 0, 1 and 2
-abbrev pub taken : Kept → ScriptLine → Kept
+abbrev pub taken : Kept → Line → Kept
 taken k (Frame width height layout depth superblock sharpness) =
     cond (eqb k.state.phase 0)
     (kept (framed k.state width height layout depth superblock sharpness) k.values k.memory)

@@ -1,47 +1,29 @@
 // A block line.
-ghost use Rattle.std.specs.Prelude.{◌≡◌, min, length};
-ghost use Rattle.units.specs.Units.{units_of, chroma_unit};
+ghost use Rattle.std.specs.Prelude.{◌≡◌, min};
+ghost use Rattle.units.specs.Units.{chroma_unit};
 ghost use Rattle.units.specs.Layout.{ss_hor, ss_ver};
-ghost use Rattle.list_script.specs.declared.ScriptLine.TheVariants.{Block as BlockLine};
-ghost use Rattle.list_steps.specs.Steps.{block_of, blocked, kept_of, taken};
+ghost use Rattle.list_script.specs.Line.{block_line, chroma_code, chroma_flag};
+ghost use Rattle.list_steps.specs.State.{state_is};
+ghost use Rattle.list_steps.specs.Steps.{block_of, blocked, kept_of, after_line, taken};
 
-use crate::{Carried, refused};
+use crate::{Carried, Fault, Phase};
+use list_script::BlockLine;
 use record::record_intra;
 use units::layout::{ss_hor, ss_ver};
-use units::numbers::{DONE, FORM};
 use units::{LumaUnit, chroma_unit};
 
-fn units_of(side: u32) -> usize
-    ensures { result ≡ units_of side }
+fn across(layout: u32, x: u32, context: &[u8; 64]) -> usize
+    ensures { result ≡ min (chroma_unit (ss_hor layout) x) 64 }
 {
-    (side as usize + 3) / 4
+    let unit = chroma_unit(LumaUnit(x as usize), ss_hor(layout as usize));
+    unit.0.min(context.len())
 }
 
-fn cut(at: usize, context: &[u8]) -> usize
-    ensures { result ≡ min at (length context.now) }
+fn down(layout: u32, y: u32, context: &[u8; 64]) -> usize
+    ensures { result ≡ min (chroma_unit (ss_ver layout) y) 64 }
 {
-    if context.len() < at {
-        return context.len();
-    }
-    at
-}
-
-fn across(layout: u32, x: u32, context: &[u8]) -> usize
-    ensures { result ≡ min (chroma_unit (ss_hor layout) x) (length context.now) }
-{
-    cut(
-        chroma_unit(LumaUnit(x as usize), ss_hor(layout as usize)).0,
-        context,
-    )
-}
-
-fn down(layout: u32, y: u32, context: &[u8]) -> usize
-    ensures { result ≡ min (chroma_unit (ss_ver layout) y) (length context.now) }
-{
-    cut(
-        chroma_unit(LumaUnit(y as usize), ss_ver(layout as usize)).0,
-        context,
-    )
+    let unit = chroma_unit(LumaUnit(y as usize), ss_ver(layout as usize));
+    unit.0.min(context.len())
 }
 
 // Lends the contexts from the block on.
@@ -49,71 +31,61 @@ fn recorded(
     c: Carried,
     levels: &mut [u8],
     masks: &mut [u16],
-    x: u32,
-    y: u32,
-    size: u32,
-    tx: u32,
-    chroma: u32,
-    uvtx: u32,
-) -> Carried
-    ensures { kept_of result levels.new masks.new
-        ≡ blocked (kept_of c levels.old masks.old) (block_of c.state x y size tx chroma uvtx) }
+    b: BlockLine,
+) -> Result<Carried, Fault>
+    ensures { after_line c levels.new masks.new result
+        ≡ blocked (kept_of c levels.old masks.old) (block_of (state_is c.state) b.x b.y b.size b.tx (chroma_flag b.uvtx) (chroma_code b.uvtx)) }
 {
     let s = c.state;
-    let mut above = c.above;
-    let mut left = c.left;
-    let mut above_uv = c.above_uv;
-    let mut left_uv = c.left_uv;
-    let vy = down(s.layout, y, &left_uv);
-    let ux = across(s.layout, x, &above_uv);
-    let ly = cut(y as usize, &left);
-    let ax = cut(x as usize, &above);
-    let n = record_intra(
+    let Carried {
+        mut above,
+        mut left,
+        mut above_uv,
+        mut left_uv,
+        ..
+    } = c;
+    let ax = (b.x as usize).min(above.len());
+    let ly = (b.y as usize).min(left.len());
+    let ux = across(s.layout, b.x, &above_uv);
+    let vy = down(s.layout, b.y, &left_uv);
+    record_intra(
         levels,
-        units_of(s.width),
+        (s.width as usize).div_ceil(4),
         masks,
         &c.values,
         s.width,
         s.height,
         s.layout,
-        x,
-        y,
-        size,
-        tx,
+        b.x,
+        b.y,
+        b.size,
+        b.tx,
         &mut above[ax..],
         &mut left[ly..],
-        chroma,
-        uvtx,
+        u32::from(b.uvtx.is_some()),
+        b.uvtx.unwrap_or(0),
         &mut above_uv[ux..],
         &mut left_uv[vy..],
-    );
-    if n != DONE {
-        return refused(c, n);
-    }
-    let mut d = c;
-    d.above = above;
-    d.left = left;
-    d.above_uv = above_uv;
-    d.left_uv = left_uv;
-    d
+    )?;
+    Ok(Carried {
+        above,
+        left,
+        above_uv,
+        left_uv,
+        ..c
+    })
 }
 
 pub fn block_line(
     c: Carried,
     levels: &mut [u8],
     masks: &mut [u16],
-    x: u32,
-    y: u32,
-    size: u32,
-    tx: u32,
-    chroma: u32,
-    uvtx: u32,
-) -> Carried
-    ensures { kept_of result levels.new masks.new ≡ taken (kept_of c levels.old masks.old) (BlockLine x y size tx chroma uvtx) }
+    b: BlockLine,
+) -> Result<Carried, Fault>
+    ensures { after_line c levels.new masks.new result ≡ taken (kept_of c levels.old masks.old) (block_line b) }
 {
-    let s = c.state;
-    if s.phase != 2 {
-        return refused(c, FORM);
+    if c.state.phase != Phase::Leveled {
+        return Err(Fault::Form);
     }
-    recorded(c, levels, masks, x, y, size, tx, chroma, uvtx)
+    recorded(c, levels, masks, b)
 }

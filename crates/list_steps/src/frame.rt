@@ -1,77 +1,58 @@
 // A frame line.
 ghost use Rattle.std.specs.Prelude.{List, ◌≡◌, ℕ};
-ghost use Rattle.list_script.specs.declared.ScriptLine.TheVariants.{Frame};
-ghost use Rattle.list_steps.specs.Steps.{side_ok, depth_ok, frame_number, kept_of, taken};
+ghost use Rattle.refusals.specs.Numbers.{answered};
+ghost use Rattle.list_script.specs.Line.{frame_line};
+ghost use Rattle.list_steps.specs.Steps.{side_ok, depth_ok, frame_number, kept_of, after_line, taken};
 
-use crate::{Carried, State, refused, with_state};
+use crate::{Carried, Fault, Phase, State};
+use list_script::FrameLine;
+use refusals::Refusal;
 use units::frame::superblock_ok;
 use units::layout::layout_ok;
-use units::numbers::{DEPTH, DONE, FORM, SHAPE, SHARPNESS};
 
 fn side_ok(n: u32) -> bool
     ensures { result ≡ side_ok n }
 {
-    (1 <= n) & (n <= 256)
+    (1..=256).contains(&n)
 }
 
 fn depth_ok(n: u32) -> bool
     ensures { result ≡ depth_ok n }
 {
-    (n == 8) | (n == 10) | (n == 12)
+    matches!(n, 8 | 10 | 12)
 }
 
-fn frame_number(
-    width: u32,
-    height: u32,
-    layout: u32,
-    depth: u32,
-    superblock: u32,
-    sharpness: u32,
-) -> u32
-    ensures { result ≡ frame_number width height layout depth superblock sharpness }
+fn frame_ok(f: FrameLine) -> Result<(), Refusal>
+    ensures { answered result ≡ frame_number f.width f.height f.layout f.depth f.superblock f.sharpness }
 {
-    if 7 < sharpness {
-        return SHARPNESS;
+    if 7 < f.sharpness {
+        return Err(Refusal::Sharpness);
     }
-    if !depth_ok(depth) {
-        return DEPTH;
+    if !depth_ok(f.depth) {
+        return Err(Refusal::Depth);
     }
-    if layout_ok(layout as usize)
-        & (side_ok(width) & (side_ok(height) & superblock_ok(superblock as usize)))
+    if layout_ok(f.layout as usize)
+        & (side_ok(f.width) & (side_ok(f.height) & superblock_ok(f.superblock as usize)))
     {
-        return DONE;
+        return Ok(());
     }
-    SHAPE
+    Err(Refusal::Shape)
 }
 
-pub fn frame_line(
-    c: Carried,
-    width: u32,
-    height: u32,
-    layout: u32,
-    depth: u32,
-    superblock: u32,
-    sharpness: u32,
-) -> Carried
-    ensures { (levels masks : List ℕ) → kept_of result levels masks ≡ taken (kept_of c levels masks) (Frame width height layout depth superblock sharpness) }
+pub fn frame_line(c: Carried, f: FrameLine) -> Result<Carried, Fault>
+    ensures { (levels masks : List ℕ) → after_line c levels masks result ≡ taken (kept_of c levels masks) (frame_line f) }
 {
-    let s = c.state;
-    if s.phase != 0 {
-        return refused(c, FORM);
+    if c.state.phase != Phase::Start {
+        return Err(Fault::Form);
     }
-    let n = frame_number(width, height, layout, depth, superblock, sharpness);
-    if n != DONE {
-        return refused(c, n);
-    }
-    with_state(
-        c,
-        State {
-            line: s.line,
-            phase: 1,
-            number: DONE,
-            width,
-            height,
-            layout,
-        },
-    )
+    frame_ok(f)?;
+    let state = State {
+        phase: Phase::Framed,
+        fault: None,
+        width: f.width,
+        height: f.height,
+        layout: f.layout,
+        ..c.state
+    };
+    Ok(Carried { state, ..c })
 }

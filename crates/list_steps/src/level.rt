@@ -1,67 +1,44 @@
 // A level line.
-ghost use Rattle.std.specs.Prelude.{cond, List, ◌≡◌, eqb, ℕ, ◌≤◌, length, take};
+ghost use Rattle.std.specs.Prelude.{List, ◌≡◌, ℕ, IfOk};
 ghost use Rattle.loops.specs.Table.{tabulate};
 ghost use Rattle.levels.specs.Levels.{levels_number, byte_at};
-ghost use Rattle.list_script.specs.declared.ScriptLine.TheVariants.{Level};
-ghost use Rattle.list_steps.specs.Steps.{bases, kept_of, taken};
+ghost use Rattle.refusals.specs.Numbers.{answered};
+ghost use Rattle.list_script.specs.Line.{level_line};
+ghost use Rattle.list_steps.specs.Steps.{bases, kept_of, after_line, taken};
 
-use crate::{Carried, State, refused, with_state};
+use crate::{Carried, Fault, Phase, State};
 use levels::levels;
-use units::numbers::{DONE, FORM, LEVEL};
+use list_script::LevelLine;
+use refusals::Refusal;
 
-fn copy_first(values: &mut [u8], all: &[u8])
-    requires { (length values.old ≡ 64) × (64 ≤ length all.now) }
-    ensures { values.new ≡ take 64 all.now }
+fn level_values(layout: u32, l: LevelLine) -> Result<[u8; 64], Refusal>
+    ensures number { answered result ≡ levels_number layout (bases l.columns l.rows l.u l.v) }
+    ensures values { IfOk result (λ v. v ≡ tabulate (byte_at (bases l.columns l.rows l.u l.v)) 64) }
 {
-    let mut i = 0;
-    while i < 64 {
-        values[i] = all[i];
-        i += 1;
+    if (63 < l.columns) | (63 < l.rows) | (63 < l.u) | (63 < l.v) {
+        return Err(Refusal::Level);
     }
+    let base = [l.columns as u8, l.rows as u8, l.u as u8, l.v as u8];
+    let mut all = [0; 512];
+    levels(
+        &mut all, layout, &base, 0, &[0; 8], &[0; 2], 0, &[0; 4], 0, &[0; 32],
+    )?;
+    let mut values = [0; 64];
+    values.copy_from_slice(&all[..64]);
+    Ok(values)
 }
 
-fn level_values(values: &mut [u8; 64], layout: u32, columns: u32, rows: u32, u: u32, v: u32) -> u32
-    ensures number { result ≡ levels_number layout (bases columns rows u v) }
-    ensures stored { values.new ≡ cond (eqb result 0) (tabulate (byte_at (bases columns rows u v)) 64) values.old }
+pub fn level_line(c: Carried, l: LevelLine) -> Result<Carried, Fault>
+    ensures { (levels masks : List ℕ) → after_line c levels masks result ≡ taken (kept_of c levels masks) (level_line l) }
 {
-    if (63 < columns) | (63 < rows) | (63 < u) | (63 < v) {
-        return LEVEL;
+    if c.state.phase != Phase::Framed {
+        return Err(Fault::Form);
     }
-    let base = [columns as u8, rows as u8, u as u8, v as u8];
-    let refs = [0i8; 8];
-    let modes = [0i8; 2];
-    let lf = [0i8; 4];
-    let seg = [0i8; 32];
-    let mut all = [0u8; 512];
-    let n = levels(&mut all, layout, &base, 0, &refs, &modes, 0, &lf, 0, &seg);
-    if n != DONE {
-        return n;
-    }
-    copy_first(values, &all);
-    DONE
-}
-
-pub fn level_line(c: Carried, columns: u32, rows: u32, u: u32, v: u32) -> Carried
-    ensures { (levels masks : List ℕ) → kept_of result levels masks ≡ taken (kept_of c levels masks) (Level columns rows u v) }
-{
-    let s = c.state;
-    if s.phase != 1 {
-        return refused(c, FORM);
-    }
-    let mut d = c;
-    let n = level_values(&mut d.values, s.layout, columns, rows, u, v);
-    if n != DONE {
-        return refused(c, n);
-    }
-    with_state(
-        d,
-        State {
-            line: s.line,
-            phase: 2,
-            number: DONE,
-            width: s.width,
-            height: s.height,
-            layout: s.layout,
-        },
-    )
+    let values = level_values(c.state.layout, l)?;
+    let state = State {
+        phase: Phase::Leveled,
+        fault: None,
+        ..c.state
+    };
+    Ok(Carried { state, values, ..c })
 }

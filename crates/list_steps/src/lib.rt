@@ -5,24 +5,52 @@ mod blocks;
 mod frame;
 mod level;
 
-ghost use Rattle.std.specs.Prelude.{◌≡◌, ◌<◌};
+ghost use Rattle.std.specs.Prelude.{Some, List, ◌≡◌, ℕ, ◌<◌};
+ghost use Rattle.list_script.specs.Line.{line_said};
 ghost use Rattle.list_steps.specs.Promises.{Promises};
-ghost use Rattle.list_steps.specs.Steps.{said, refused_by, counted, with_state, kept_of, step_of};
+ghost use Rattle.list_steps.specs.State.{fault_number, state_is};
+ghost use Rattle.list_steps.specs.Steps.{said, refused, counted, kept, kept_of, after_line, taken, step_of};
 
 use blocks::block_line;
 use frame::frame_line;
 use level::level_line;
 use list_script::{ScriptLine, read_line};
-use units::numbers::FORM;
+use refusals::Refusal;
 
 const LONGEST: usize = 65535;
 
-// phase is 0 before the frame line, 1 before the level line, 2 after it; number is 0 until a line is refused.
-#[derive(Clone, Copy)]
+// Before the frame line, before the level line, after it.
+#[derive(Clone, Copy, Debug, PartialEq, Eq)]
+pub enum Phase {
+    Start,
+    Framed,
+    Leveled,
+}
+
+// Why a line is refused: it is not of the script's form, or what it says is refused.
+#[derive(Clone, Copy, Debug, PartialEq, Eq)]
+pub enum Fault {
+    Form,
+    Refused(Refusal),
+}
+
+impl From<Refusal> for Fault {
+    ghost use Rattle.std.specs.Prelude.{◌≡◌};
+    ghost use Rattle.list_steps.specs.declared.Fault.TheVariants.{Refused};
+
+    ghost from_gives = { λ r f. f ≡ Refused r };
+
+    fn from(r: Refusal) -> Fault {
+        Fault::Refused(r)
+    }
+}
+
+// The fault is that of the last line, which is the first refused one.
+#[derive(Clone, Copy, Debug, PartialEq, Eq)]
 pub struct State {
     pub line: u64,
-    pub phase: u32,
-    pub number: u32,
+    pub phase: Phase,
+    pub fault: Option<Fault>,
     pub width: u32,
     pub height: u32,
     pub layout: u32,
@@ -39,92 +67,58 @@ pub struct Carried {
     pub left_uv: [u8; 64],
 }
 
-fn said(line: &[u8]) -> ScriptLine
-    ensures { result ≡ said line.now }
+fn said(line: &[u8]) -> Option<ScriptLine>
+    ensures { line_said result ≡ said line.now }
 {
     if LONGEST < line.len() {
-        return ScriptLine::Form;
+        return None;
     }
     read_line(line)
 }
 
-fn with_state(c: Carried, s: State) -> Carried
-    ensures { result ≡ with_state c s }
-{
-    let mut d = c;
-    d.state = s;
-    d
-}
-
 fn counted(c: Carried) -> Carried
     requires { c.state.line < 18446744073709551615 }
-    ensures { result ≡ with_state c (counted c.state) }
+    ensures { (levels masks : List ℕ) → kept_of result levels masks ≡ kept (counted (state_is c.state)) c.values (kept_of c levels masks).memory }
 {
-    let s = c.state;
-    with_state(
-        c,
-        State {
-            line: s.line + 1,
-            phase: s.phase,
-            number: s.number,
-            width: s.width,
-            height: s.height,
-            layout: s.layout,
-        },
-    )
+    let state = State {
+        line: c.state.line + 1,
+        ..c.state
+    };
+    Carried { state, ..c }
 }
 
-fn refused(c: Carried, number: u32) -> Carried
-    ensures { result ≡ with_state c (refused_by c.state number) }
+fn refused(c: Carried, fault: Fault) -> Carried
+    ensures { (levels masks : List ℕ) → kept_of result levels masks ≡ refused (kept_of c levels masks) (fault_number (Some fault)) }
 {
-    let s = c.state;
-    with_state(
-        c,
-        State {
-            line: s.line,
-            phase: s.phase,
-            number,
-            width: s.width,
-            height: s.height,
-            layout: s.layout,
-        },
-    )
+    let state = State {
+        fault: Some(fault),
+        ..c.state
+    };
+    Carried { state, ..c }
+}
+
+fn taken(c: Carried, line: &[u8], levels: &mut [u8], masks: &mut [u16]) -> Result<Carried, Fault>
+    ensures { after_line c levels.new masks.new result ≡ taken (kept_of c levels.old masks.old) (said line.now) }
+{
+    match said(line) {
+        Some(ScriptLine::Frame(f)) => frame_line(c, f),
+        Some(ScriptLine::Level(l)) => level_line(c, l),
+        Some(ScriptLine::Block(b)) => block_line(c, levels, masks, b),
+        None => Err(Fault::Form),
+    }
 }
 
 pub fn step(c: Carried, line: &[u8], levels: &mut [u8; 16384], masks: &mut [u16; 2560]) -> Carried
     requires { c.state.line < 18446744073709551615 }
     ensures { kept_of result levels.new masks.new ≡ step_of (kept_of c levels.old masks.old) line.now }
 {
-    let s = c.state;
-    if s.number != 0 {
+    if c.state.fault.is_some() {
         return c;
     }
     let d = counted(c);
-    let l = said(line);
-    match l {
-        ScriptLine::Frame {
-            width,
-            height,
-            layout,
-            depth,
-            superblock,
-            sharpness,
-        } => frame_line(d, width, height, layout, depth, superblock, sharpness),
-        ScriptLine::Level {
-            columns,
-            rows,
-            u,
-            v,
-        } => level_line(d, columns, rows, u, v),
-        ScriptLine::Block {
-            x,
-            y,
-            size,
-            tx,
-            chroma,
-            uvtx,
-        } => block_line(d, levels, masks, x, y, size, tx, chroma, uvtx),
-        ScriptLine::Form => refused(d, FORM),
+    match taken(d, line, levels, masks) {
+        Ok(after) => after,
+        Err(fault) => refused(d, fault),
     }
 }
 

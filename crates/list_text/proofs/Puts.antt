@@ -4,8 +4,8 @@ use mathlib.Core.Path.{◌≡◌, refl, sym, ap, ap₂, ◌∙◌}
 use Prim.Native.Nat.{ℕ, ◌+◌, ◌≤◌, ◌<◌, suc, ◌^◌}
 use native.Mathlib.Numerals.{add-one}
 use native.Mathlib.Omega.{arith}
-use lib.ListN.{length, set, get_or, take, drop, length-append, length-take}
-use lib.Seq.{paste, paste-suc, take_at, take-length, drop-drop, drop-append-add, set_split}
+use lib.ListN.{length, set, take, drop, length-append, length-take}
+use lib.Seq.{take_at, drop-drop, drop-append-add, set_split}
 use Rattle.list_decimal.specs.Decimal.{decimal, pasted}
 use Rattle.list_decimal.proofs.Numerals as decimal
 use Rattle.list_text.specs.Promises.{Promises}
@@ -80,20 +80,6 @@ edge-put plane pass x y class level at l h p₁ p₂ p₃ p₄ p₅ p₆ =
     put_then (F₁ ++ F₂ ++ F₃ ++ F₄ ++ F₅) (field_text level end) (omega arith)
     (put_then (F₁ ++ F₂ ++ F₃ ++ F₄) F₅ (omega arith)
     (put_then (F₁ ++ F₂ ++ F₃) F₄ (omega arith) (put_then (F₁ ++ F₂) F₃ (omega arith) (put_then F₁ F₂ (omega arith) p₁ p₂) p₃) p₄) p₅) p₆
-
-pub bytes-put : (l : List ℕ) (at : ℕ) (s k : List ℕ) (i : ℕ) → i ≡ length s → k ≡ paste l at s i → Put l at s k (at + i)
-bytes-put l at s k i e p =
-    record {
-      stored =
-          p
-          ∙ ap (λ (n : ℕ). paste l at s n) e
-          ∙ ap (λ (t : List ℕ). take at l ++ t ++ drop (at + length s) l) (take-length s)
-          ∙ append_assoc (take at l) s (drop (at + length s) l);
-      next = ap (λ (n : ℕ). at + n) e;
-    }
-
-pub bytes_next : (l : List ℕ) (at : ℕ) (s k : List ℕ) (i : ℕ) → at + i < length l → i < length s → k ≡ paste l at s i → set k (at + i) (get_or s i 0) ≡ paste l at s (i + 1)
-bytes_next l at s k i h g p = ap (λ (q : List ℕ). set q (at + i) (get_or s i 0)) p ∙ paste-suc l at s i 0 h g ∙ ap (λ (n : ℕ). paste l at s n) (sym (add-one i))
 
 pub total-long : (n : ℕ) → length (total_text n) ≡ 6 + length (field_text n end)
 unfolding total_text

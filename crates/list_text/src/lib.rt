@@ -11,12 +11,9 @@ pub fn put_bytes(out: &mut [u8], at: usize, s: &[u8]) -> usize
     requires { at + length s.now ≤ length out.old }
     ensures { Put out.old at s.now out.new result }
 {
-    let mut i = 0;
-    while i < s.len() {
-        out[at + i] = s[i];
-        i += 1;
-    }
-    at + i
+    let end = at + s.len();
+    out[at..end].copy_from_slice(s);
+    end
 }
 
 fn put_field(out: &mut [u8], at: usize, n: u64, b: u8) -> usize
@@ -41,12 +38,12 @@ pub fn put_edge(
     requires { at + length (edge_text plane pass x y class level) ≤ length out.old }
     ensures { Put out.old at (edge_text plane pass x y class level) out.new result }
 {
-    let a = put_field(out, at, plane, 9);
-    let b = put_field(out, a, pass, 9);
-    let c = put_field(out, b, x, 9);
-    let d = put_field(out, c, y, 9);
-    let e = put_field(out, d, class, 9);
-    put_field(out, e, level, 10)
+    let a = put_field(out, at, plane, b'\t');
+    let b = put_field(out, a, pass, b'\t');
+    let c = put_field(out, b, x, b'\t');
+    let d = put_field(out, c, y, b'\t');
+    let e = put_field(out, d, class, b'\t');
+    put_field(out, e, level, b'\n')
 }
 
 pub fn put_header(out: &mut [u8], at: usize) -> usize
@@ -61,7 +58,7 @@ pub fn put_total(out: &mut [u8], at: usize, n: u64) -> usize
     ensures { Put out.old at (total_text n) out.new result }
 {
     let e = put_bytes(out, at, b"edges\t");
-    put_field(out, e, n, 10)
+    put_field(out, e, n, b'\n')
 }
 
 pub fn put_refused(out: &mut [u8], at: usize, line: u64, number: u64) -> usize
@@ -69,8 +66,8 @@ pub fn put_refused(out: &mut [u8], at: usize, line: u64, number: u64) -> usize
     ensures { Put out.old at (refused_text line number) out.new result }
 {
     let a = put_bytes(out, at, b"refused\t");
-    let b = put_field(out, a, line, 9);
-    put_field(out, b, number, 10)
+    let b = put_field(out, a, line, b'\t');
+    put_field(out, b, number, b'\n')
 }
 
 pub fn put_form(out: &mut [u8], at: usize, line: u64) -> usize
@@ -78,7 +75,7 @@ pub fn put_form(out: &mut [u8], at: usize, line: u64) -> usize
     ensures { Put out.old at (form_text line) out.new result }
 {
     let a = put_bytes(out, at, b"refused\t");
-    let b = put_field(out, a, line, 9);
+    let b = put_field(out, a, line, b'\t');
     put_bytes(out, b, b"form\n")
 }
 

@@ -35,10 +35,6 @@ pub grid-both : (c r c₀ r₀ : BlockPass) (class : ℕ → ℕ) (t w h kw kh :
 unfolding grid_masks
 grid-both c r c₀ r₀ class t w h kw kh skip a l ms ms' ms'' ec er ew eh ekw ekh e e' = e' ∙ rw (e, ekw, ekh, ew, eh, ec, er) refl
 
-pub context-filled : (class : ℕ → ℕ) (n m k side t : ℕ) (c c' : List ℕ) → c' ≡ stores n (λ _. k) c → n ≡ m → k ≡ class side → side ≡ t → c' ≡ stores m
-    (λ _. class t) c
-context-filled class n m k side t c c' e en ek es = e ∙ rw (en, ek, es) refl
-
 module _ (p p₀ : BlockPass) (txa txa₀ : List ℕ) (e : p ≡ p₀) (f : txa ≡ txa₀) where
   pub context-taken : (c c' : List ℕ) → c' ≡ stores p.along (class_in txa p (p.across - 1)) c → c' ≡ stores p₀.along
       (class_in txa₀ p₀ (p₀.across - 1)) c

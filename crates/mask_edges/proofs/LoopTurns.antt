@@ -11,12 +11,8 @@ use Rattle.loops.proofs.Products.{step_in, steps-in}
 use Rattle.bits.specs.Mark.{mark, marks}
 use Rattle.bits.proofs.Marks.{marks-none, marks-more}
 use Rattle.mask_edges.specs.declared.edge.BlockPass.{BlockPass}
-use Rattle.mask_edges.specs.Folds.{bit_in, block_edge, step_edges, stores, grid_pass, Edged, Held}
+use Rattle.mask_edges.specs.Folds.{bit_in, block_edge, step_edges, stores, grid_pass, Edged}
 use Rattle.mask_edges.proofs.Contexts.{stores-here}
-
--- a record that has been written to is as long as before
-pub held : (p : BlockPass) {n m : ℕ} → n ≡ m → Held p m → Held p n
-held p e h = record { half = h.half; unit = h.unit; place = h.place; words = rw e h.words }
 
 module _ (bit : ℕ → ℕ → ℕ → ℕ) where
   pub block_none : (class context : ℕ → ℕ) (ms : List ℕ) → ms ≡ block_edge bit 0 class context ms

@@ -1,5 +1,5 @@
 // One pass over a block, and the bits of its edges. Places and sizes are in units of the plane at hand.
-ghost use Rattle.std.specs.Prelude.{◌≡◌, ◌+◌, ◌-◌, ◌*◌, ◌/◌, ◌%◌, ◌^◌, ◌<◌, ◌≤◌, min, length, get_or, set};
+ghost use Rattle.std.specs.Prelude.{◌≡◌, ◌+◌, ◌-◌, ◌*◌, ◌/◌, ◌%◌, ◌^◌, ◌<◌, ◌≤◌, length, get_or, set};
 ghost use Rattle.std.specs.Int.Bits.{bit_or};
 ghost use Rattle.bits.specs.Mark.{mark, marks};
 ghost use Rattle.mask_edges.specs.Folds.{classes, bit_in, columns_of, rows_of, Held};
@@ -47,18 +47,12 @@ pub fn rows(luma: bool, half: usize, by4: usize, bx4: usize, w4: usize, h4: usiz
     }
 }
 
-pub fn least(a: u8, b: u8) -> u8
-    ensures { result ≡ min a b }
-{
-    if a <= b { a } else { b }
-}
-
 // A mask word is stored only here, and only to set a bit.
 fn set_bits(word: &mut u16, bits: u16)
     requires { 0 < bits }
     ensures { word.new ≡ bit_or word.old bits }
 {
-    *word = *word | bits;
+    *word |= bits;
 }
 
 // Bit k of word `at`.
@@ -74,7 +68,7 @@ pub fn set_in(masks: &mut [u16], at: usize, class: u8, k: usize)
     requires { (at + 2 * class < length masks.old) × (k < 16) }
     ensures { masks.new ≡ mark masks.old (16 * (at + 2 * class) + k) }
 {
-    set_at(masks, at + 2 * class as usize, k);
+    set_at(masks, at + 2 * usize::from(class), k);
 }
 
 // The block's edge at (u, v).

@@ -2,7 +2,7 @@
 ghost use Rattle.std.specs.Prelude.{◌≡◌, List, ℕ, ◌-◌, ◌*◌, ◌/◌, ◌<◌, ◌≤◌, ◌+◌, length, get_or};
 ghost use Rattle.mask_edges.specs.Folds.{classes, bit_in, block_edge, step_edges, stores, grid_pass, Edged, Held};
 
-use super::edge::{BlockPass, least, set_edges, set_in};
+use super::edge::{BlockPass, set_edges, set_in};
 use units::masks::edge_word;
 
 // Of the block's own edge, the units from `from` to `to`, which lie in one half; their context becomes the class.
@@ -22,7 +22,7 @@ fn half_edge(
     let at = edge_word(p.luma, p.rowwise, p.unit, 0) + half;
     let before = half * p.half;
     for v in from..to {
-        let k = least(class, ctx[v]);
+        let k = class.min(ctx[v]);
         ctx[v] = class;
         set_in(masks, at, k, p.place + v - before);
     }
@@ -54,8 +54,7 @@ fn step_edges(masks: &mut [u16], p: BlockPass, step: usize, class: u8)
     if p.across <= step {
         return;
     }
-    let n = (p.across - 1) / step;
-    for i in 0..n {
+    for i in 0..(p.across - 1) / step {
         set_edges(masks, p, (i + 1) * step, class);
     }
 }

@@ -17,9 +17,7 @@ use cells::mask_cells;
 use decomp::decomp_block;
 use edge::{columns, rows};
 use grid::mask_grid;
-use units::sizes::{
-    chroma_class, chroma_tx_high, chroma_tx_wide, luma_class, luma_tx_high, luma_tx_wide,
-};
+use units::sizes::{chroma_class, luma_class, tx_high, tx_wide};
 use units::{ChromaUnit, LumaUnit};
 
 // A block of one transform, of w by h units.
@@ -67,8 +65,8 @@ pub fn mask_edges_chroma(
     ensures above { a.new ≡ stores cw4.0 (λ _. chroma_class (Tx_High tx)) a.old }
     ensures left { l.new ≡ stores ch4.0 (λ _. chroma_class (Tx_Wide tx)) l.old }
 {
-    let w = chroma_tx_wide(tx);
-    let h = chroma_tx_high(tx);
+    let w = tx_wide::<ChromaUnit>(tx);
+    let h = tx_high::<ChromaUnit>(tx);
     let across = columns(false, 16 >> ss_ver, cby4.0, cbx4.0, cw4.0, ch4.0);
     let down = rows(false, 16 >> ss_hor, cby4.0, cbx4.0, cw4.0, ch4.0);
     mask_grid(masks, across, w.0, chroma_class(w), skip_inter, l);
@@ -115,8 +113,8 @@ pub fn mask_edges_luma(
     ensures above { a.new ≡ stores w4.0 (above_of inter tx_masks.now tx w4.0 h4.0) a.old }
     ensures left { l.new ≡ stores h4.0 (left_of inter tx_masks.now tx w4.0 h4.0) l.old }
 {
-    let w = luma_tx_wide(tx);
-    let h = luma_tx_high(tx);
+    let w = tx_wide::<LumaUnit>(tx);
+    let h = tx_high::<LumaUnit>(tx);
     if is_whole(inter, tx, w4, h4, w, h, tx_masks) {
         one_transform(masks, by4, bx4, w4, h4, inter & skip, w, h, a, l);
         return;

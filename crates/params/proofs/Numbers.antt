@@ -16,8 +16,7 @@ use Rattle.params_read.specs.Reads.{Reads}
 use Rattle.params_lay.specs.Print.{printed, OneBits}
 use Rattle.params_unfit.specs.Unfit.{unfit}
 use Rattle.params_unfit.proofs.Fits.{Fit}
-use Rattle.params.specs.Calls.{no_params, read_of, write_number, WriteAnswer}
-use Rattle.params.specs.declared.ParamsAnswer.{ParamsAnswer}
+use Rattle.params.specs.Calls.{ParamsAnswer, no_params, read_of, write_number, WriteAnswer}
 
 abbrev answer : ℕ → ℕ → Params → ParamsAnswer
 answer r c p = record { number = r; count = c; params = p }

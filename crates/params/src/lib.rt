@@ -2,113 +2,73 @@
 #![tactic(auto)]
 
 ghost use Rattle.std.specs.Prelude.{◌≡◌};
-ghost use Rattle.loops.specs.Flag.{on};
-ghost use Rattle.standard.specs.Header.{given};
-ghost use Rattle.params.specs.Calls.{no_params, read_of, WriteAnswer};
+ghost use Rattle.standard.specs.Header.{is_off};
+ghost use Rattle.refusals.specs.Numbers.{answered};
+ghost use Rattle.params.specs.Calls.{given_by, read_of, read_answer, count_of, WriteAnswer};
 
 use bit_place::has_room;
 use params_lay::{count, lay};
+pub use params_read::Taken;
 use params_read::{defaults, parsed};
 use params_unfit::unfit;
+use refusals::Refusal;
 use standard::Params;
 
+// What the frame header says before the parameters, a flag as 0 or not 0, and the deltas as they are before them.
 #[derive(Clone, Copy)]
-pub struct ParamsAnswer {
-    pub number: u32,
-    pub count: u32,
-    pub params: Params,
+pub struct FrameHeader {
+    pub planes: u32,
+    pub lossless: u32,
+    pub intrabc: u32,
+    pub refs: [i8; 8],
+    pub modes: [i8; 2],
 }
 
-#[derive(Clone, Copy)]
-pub struct Written {
-    pub number: u32,
-    pub count: u32,
-}
-
-fn no_params() -> Params
-    ensures { result ≡ no_params }
-{
-    Params {
-        level: [0u8; 4],
-        sharpness: 0,
-        delta_enabled: 0,
-        delta_update: 0,
-        update_ref: [0u8; 8],
-        update_mode: [0u8; 2],
-        ref_delta: [0i8; 8],
-        mode_delta: [0i8; 2],
+impl FrameHeader {
+    // no bits are sent
+    fn is_off(&self) -> bool
+        ensures { result ≡ is_off (given_by self.now) }
+    {
+        (self.lossless != 0) | (self.intrabc != 0)
     }
 }
 
-pub fn read(
-    bytes: &[u8],
-    at: usize,
-    planes: u32,
-    lossless: u32,
-    intrabc: u32,
-    refs: [i8; 8],
-    modes: [i8; 2],
-) -> ParamsAnswer
-    ensures { result ≡ read_of (given planes (on lossless) (on intrabc) refs modes) bytes.now at }
+pub fn read(bytes: &[u8], at: usize, header: FrameHeader) -> Result<Taken, Refusal>
+    ensures { read_answer result ≡ read_of (given_by header) bytes.now at }
 {
-    if (lossless != 0) | (intrabc != 0) {
-        return ParamsAnswer {
-            number: 0,
+    if header.is_off() {
+        return Ok(Taken {
             count: 0,
             params: defaults(),
-        };
+        });
     }
-    let t = parsed(bytes, at, planes, refs, modes);
-    if !has_room(bytes.len(), at, t.count) {
-        return ParamsAnswer {
-            number: 23,
-            count: 0,
-            params: no_params(),
-        };
+    let taken = parsed(bytes, at, header.planes, header.refs, header.modes);
+    if !has_room(bytes.len(), at, taken.count as usize) {
+        return Err(Refusal::Bits);
     }
-    let params = t.params;
-    ParamsAnswer {
-        number: 0,
-        count: t.count as u32,
-        params,
-    }
+    Ok(taken)
 }
 
+// How many bits are written.
 pub fn write(
     bytes: &mut [u8],
     at: usize,
-    planes: u32,
-    lossless: u32,
-    intrabc: u32,
-    refs: [i8; 8],
-    modes: [i8; 2],
+    header: FrameHeader,
     params: Params,
-) -> Written
-    ensures { WriteAnswer (given planes (on lossless) (on intrabc) refs modes) params at result.number result.count bytes.old bytes.new }
+) -> Result<u32, Refusal>
+    ensures { WriteAnswer (given_by header) params at (answered result) (count_of result) bytes.old bytes.new }
 {
-    let off = (lossless != 0) | (intrabc != 0);
-    if unfit(off, planes, refs, modes, params) {
-        return Written {
-            number: 24,
-            count: 0,
-        };
+    let off = header.is_off();
+    if unfit(off, header.planes, header.refs, header.modes, params) {
+        return Err(Refusal::Unwritable);
     }
     if off {
-        return Written {
-            number: 0,
-            count: 0,
-        };
+        return Ok(0);
     }
-    let n = count(planes, params);
+    let n = count(header.planes, params);
     if !has_room(bytes.len(), at, n) {
-        return Written {
-            number: 23,
-            count: 0,
-        };
+        return Err(Refusal::Bits);
     }
-    lay(bytes, at, planes, params);
-    Written {
-        number: 0,
-        count: n as u32,
-    }
+    lay(bytes, at, header.planes, params);
+    Ok(n as u32)
 }

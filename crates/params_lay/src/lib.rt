@@ -14,10 +14,8 @@ fn delta_bits(update: &[u8], n: usize) -> usize
     ensures { ((ds : List ℤ) → result ≡ length (deltas_digits update.now ds n)) × (result ≤ 8 * n) }
 {
     let mut k = 0;
-    let mut i = 0;
-    while i < n {
-        k = k + 1 + 7 * update[i] as usize;
-        i += 1;
+    for i in 0..n {
+        k = k + 1 + 7 * usize::from(update[i]);
     }
     k
 }
@@ -26,12 +24,9 @@ pub fn count(planes: u32, p: Params) -> usize
     requires { OneBits p }
     ensures { (result ≡ length (printed planes p)) × (result ≤ 200) }
 {
-    let level = p.level;
-    let update_ref = p.update_ref;
-    let update_mode = p.update_mode;
     let u = p.delta_update as usize;
-    let fields = 16 + 2 * chroma_bits(planes, level[0], level[1]) + p.delta_enabled as usize;
-    fields + delta_bits(&update_ref, 8 * u) + delta_bits(&update_mode, 2 * u)
+    let fields = 16 + 2 * chroma_bits(planes, p.level[0], p.level[1]) + p.delta_enabled as usize;
+    fields + delta_bits(&p.update_ref, 8 * u) + delta_bits(&p.update_mode, 2 * u)
 }
 
 fn lay_levels(bytes: &mut [u8], at: usize, n: usize, level: [u8; 4])
@@ -67,13 +62,11 @@ fn lay_deltas(
         × (bytes.new ≡ laid (deltas_digits update.now deltas.now n) (at + from) bytes.old) }
 {
     let mut k = from;
-    let mut i = 0;
-    while i < n {
-        let u = update[i];
-        put(bytes, at, k, 1, u);
-        put(bytes, at, k + 1, 7 * u as usize, seven(deltas[i]));
-        k = k + 1 + 7 * u as usize;
-        i += 1;
+    for i in 0..n {
+        let bits = 7 * usize::from(update[i]);
+        put(bytes, at, k, 1, update[i]);
+        put(bytes, at, k + 1, bits, seven(deltas[i]));
+        k = k + 1 + bits;
     }
     k
 }
@@ -82,17 +75,12 @@ pub fn lay(bytes: &mut [u8], at: usize, planes: u32, p: Params)
     requires { OneBits p × (at + length (printed planes p) ≤ 8 * length bytes.old) }
     ensures { bytes.new ≡ laid (printed planes p) at bytes.old }
 {
-    let level = p.level;
-    let n = chroma_bits(planes, level[0], level[1]);
+    let n = chroma_bits(planes, p.level[0], p.level[1]);
     let k = 12 + 2 * n;
     let u = p.delta_update as usize;
-    let update_ref = p.update_ref;
-    let update_mode = p.update_mode;
-    let ref_delta = p.ref_delta;
-    let mode_delta = p.mode_delta;
-    lay_levels(bytes, at, n, level);
+    lay_levels(bytes, at, n, p.level);
     lay_switches(bytes, at, k, p.sharpness, p.delta_enabled, p.delta_update);
     let d = k + 4 + p.delta_enabled as usize;
-    let m = lay_deltas(bytes, at, d, 8 * u, &update_ref, &ref_delta);
-    lay_deltas(bytes, at, m, 2 * u, &update_mode, &mode_delta);
+    let m = lay_deltas(bytes, at, d, 8 * u, &p.update_ref, &p.ref_delta);
+    lay_deltas(bytes, at, m, 2 * u, &p.update_mode, &p.mode_delta);
 }

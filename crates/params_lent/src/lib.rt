@@ -5,9 +5,11 @@ ghost use Rattle.std.specs.Prelude.{◌++◌, ◌≡◌, get_or};
 ghost use Rattle.loops.specs.Flag.{on};
 ghost use Rattle.loops.specs.Table.{tabulate};
 ghost use Rattle.standard.specs.Header.{given};
+ghost use Rattle.refusals.specs.Numbers.{answered};
 ghost use Rattle.params.specs.Calls.{read_of, lent_of, ReadLent, fields_of, WriteLent};
 
-use params::{read, write};
+use params::{FrameHeader, read, write};
+use refusals::Refusal;
 use standard::Params;
 
 // Update bits of eight references and of two modes.
@@ -57,24 +59,20 @@ pub fn read_into(
     ref_delta: &mut [i8; 8],
     mode_delta: &mut [i8; 2],
     count: &mut [u32; 1],
-) -> u32
-    ensures { ReadLent (read_of (given planes (on lossless) (on intrabc) ref_delta.old mode_delta.old) bytes.now at) result
+) -> Result<(), Refusal>
+    ensures { ReadLent (read_of (given planes (on lossless) (on intrabc) ref_delta.old mode_delta.old) bytes.now at) (answered result)
         (lent_of level.old bits.old update.old ref_delta.old mode_delta.old count.old)
         (lent_of level.new bits.new update.new ref_delta.new mode_delta.new count.new) }
 {
-    let a = read(
-        bytes,
-        at,
+    let header = FrameHeader {
         planes,
         lossless,
         intrabc,
-        *ref_delta,
-        *mode_delta,
-    );
-    if a.number != 0 {
-        return a.number;
-    }
-    let p = a.params;
+        refs: *ref_delta,
+        modes: *mode_delta,
+    };
+    let taken = read(bytes, at, header)?;
+    let p = taken.params;
     let levels = p.level;
     let r = p.update_ref;
     let m = p.update_mode;
@@ -85,8 +83,8 @@ pub fn read_into(
     *update = joined(r, m);
     *ref_delta = refs;
     *mode_delta = modes;
-    *count = [a.count];
-    0
+    *count = [taken.count];
+    Ok(())
 }
 
 pub fn write_from(
@@ -103,24 +101,20 @@ pub fn write_from(
     ref_delta: &[i8; 8],
     mode_delta: &[i8; 2],
     count: &mut [u32; 1],
-) -> u32
+) -> Result<(), Refusal>
     ensures { WriteLent (given planes (on lossless) (on intrabc) ref_before.now mode_before.now)
         (fields_of level.now bits.now update.now ref_delta.now mode_delta.now)
-        at result bytes.old bytes.new count.old count.new }
+        at (answered result) bytes.old bytes.new count.old count.new }
 {
-    let params = fields(level, bits, update, ref_delta, mode_delta);
-    let w = write(
-        bytes,
-        at,
+    let header = FrameHeader {
         planes,
         lossless,
         intrabc,
-        *ref_before,
-        *mode_before,
-        params,
-    );
-    if w.number == 0 {
-        *count = [w.count];
-    }
-    w.number
+        refs: *ref_before,
+        modes: *mode_before,
+    };
+    let params = fields(level, bits, update, ref_delta, mode_delta);
+    let written = write(bytes, at, header, params)?;
+    *count = [written];
+    Ok(())
 }

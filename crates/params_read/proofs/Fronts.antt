@@ -2,9 +2,8 @@
 use mathlib.Core.Bool.{Bool, true, false, cond}
 use mathlib.Core.List.{List}
 use mathlib.Core.Path.{◌≡◌, sym, ap, ◌∙◌}
-use Prim.Native.Nat.{ℕ, zero, suc, ◌+◌, ◌*◌, ◌<◌, ◌≤◌}
-use native.Mathlib.Nat.{add-zero, zero-mul, one-mul}
-use native.Mathlib.Omega.{arith}
+use Prim.Native.Nat.{ℕ, ◌+◌, ◌<◌}
+use native.Mathlib.Nat.{add-zero}
 use lib.IntN.{ℤ}
 use lib.ListN.{get_or, drop}
 use lib.Seq.{get_or-drop, drop-drop}
@@ -27,9 +26,3 @@ behind-same {A} i a b e = sym (drop-drop 1 i a) ∙ ap (λ (l : List A). drop 1 
 pub stored : (t : Bool) (v : ℕ) (r x y : ℤ) → v < 128 → mag x < 128 → r ≡ cond t (su_of v) (to_z w8 (of_z w8 x)) → x ≡ y → to_z w8 (of_z w8 r) ≡ cond t (su_of v) y
 stored true v r x y h g e q = ap (λ (z : ℤ). to_z w8 (of_z w8 z)) e ∙ kept v h
 stored false v r x y h g e q = ap (λ (z : ℤ). to_z w8 (of_z w8 z)) (e ∙ seen x g) ∙ seen x g ∙ q
-
--- none or all of m
-pub times-bit : (u m : ℕ) → u < 2 → u * m ≤ m
-times-bit zero m h = rw (zero-mul m) (omega arith)
-times-bit (suc zero) m h = rw (one-mul m) (omega arith)
-times-bit (suc (suc u)) m h = absurd (omega arith)

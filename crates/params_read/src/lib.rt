@@ -12,7 +12,7 @@ use standard::Params;
 
 #[derive(Clone, Copy)]
 pub struct Taken {
-    pub count: usize,
+    pub count: u32,
     pub params: Params,
 }
 
@@ -68,29 +68,29 @@ fn read_delta(bytes: &[u8], at: usize, k: usize, update: u8, before: i8) -> i8
     su7(number(bytes, at, k, 7))
 }
 
-fn read_deltas(
+fn read_deltas<const N: usize>(
     bytes: &[u8],
     at: usize,
     from: usize,
     u: u8,
-    update: &mut [u8],
-    deltas: &mut [i8],
-) -> usize
-    requires { (from ≤ 110) × (u < 2) × (length update.old ≤ 8) × (length deltas.old ≡ length update.old) × (update.old ≡ replicate (length update.old) 0) }
-    ensures { (from ≤ result) × (result ≤ from + 8 * length update.old)
-        × Reads (Header.deltas u deltas.old (length update.old)) (update.new, deltas.new) (bit_at bytes.now) (at + from) (result - from) }
+    deltas: &mut [i8; N],
+) -> (usize, [u8; N])
+    requires { (from ≤ 110) × (u < 2) × (N ≤ 8) }
+    ensures { (from ≤ result.0) × (result.0 ≤ from + 8 * N)
+        × Reads (Header.deltas u deltas.old N) (result.1, deltas.new) (bit_at bytes.now) (at + from) (result.0 - from) }
 {
-    let n = u as usize * update.len();
+    let mut update = [0; N];
+    if u == 0 {
+        return (from, update);
+    }
     let mut k = from;
-    let mut i = 0;
-    while i < n {
+    for i in 0..N {
         let sent = number(bytes, at, k, 1);
         update[i] = sent;
         deltas[i] = read_delta(bytes, at, k + 1, sent, deltas[i]);
-        k = k + 1 + 7 * sent as usize;
-        i += 1;
+        k = k + 1 + 7 * usize::from(sent);
     }
-    k
+    (k, update)
 }
 
 pub fn parsed(bytes: &[u8], at: usize, planes: u32, refs: [i8; 8], modes: [i8; 2]) -> Taken
@@ -100,23 +100,15 @@ pub fn parsed(bytes: &[u8], at: usize, planes: u32, refs: [i8; 8], modes: [i8; 2
     let k = 12 + 2 * chroma_bits(planes, level[0], level[1]);
     let sharpness = number(bytes, at, k, 3);
     let delta_enabled = number(bytes, at, k + 3, 1);
-    let delta_update = number(bytes, at, k + 4, delta_enabled as usize);
-    let d = k + 4 + delta_enabled as usize;
-    let mut update_ref = [0u8; 8];
-    let mut update_mode = [0u8; 2];
+    let enabled = usize::from(delta_enabled);
+    let delta_update = number(bytes, at, k + 4, enabled);
+    let d = k + 4 + enabled;
     let mut ref_delta = refs;
     let mut mode_delta = modes;
-    let m = read_deltas(bytes, at, d, delta_update, &mut update_ref, &mut ref_delta);
-    let end = read_deltas(
-        bytes,
-        at,
-        m,
-        delta_update,
-        &mut update_mode,
-        &mut mode_delta,
-    );
+    let (m, update_ref) = read_deltas(bytes, at, d, delta_update, &mut ref_delta);
+    let (end, update_mode) = read_deltas(bytes, at, m, delta_update, &mut mode_delta);
     Taken {
-        count: end,
+        count: end as u32,
         params: Params {
             level,
             sharpness,

@@ -1,2 +1,2 @@
-pub mod Unfits
+pub mod Beside
 pub mod Fits

@@ -18,6 +18,7 @@ fn chroma_most(planes: u32, columns: u8, rows: u8) -> u8
     63
 }
 
+#[tactic(auto, unfolding(crate::specs::Unfit::unfit_levels))]
 fn unfit_levels(planes: u32, level: [u8; 4]) -> bool
     ensures { result ≡ unfit_levels planes level }
 {
@@ -25,6 +26,7 @@ fn unfit_levels(planes: u32, level: [u8; 4]) -> bool
     (level[0] > 63) | (level[1] > 63) | (level[2] > most) | (level[3] > most)
 }
 
+#[tactic(auto, unfolding(crate::specs::Unfit::unfit_fields))]
 fn unfit_fields(off: bool, planes: u32, p: Params) -> bool
     ensures { result ≡ unfit_fields off planes p }
 {
@@ -40,6 +42,7 @@ fn unfit_fields(off: bool, planes: u32, p: Params) -> bool
     unfit_levels(planes, level) | (p.sharpness > 7) | (p.delta_enabled > 1)
 }
 
+#[tactic(auto, unfolding(crate::specs::Unfit::unfit_delta))]
 fn unfit_delta(most: u8, update: u8, before: i8, delta: i8) -> bool
     ensures { result ≡ unfit_delta most update before delta }
 {
@@ -52,49 +55,34 @@ fn unfit_delta(most: u8, update: u8, before: i8, delta: i8) -> bool
     is_outside(delta, 64)
 }
 
-fn unfit_deltas(most: u8, update: &[u8], before: &[i8], deltas: &[i8]) -> bool
-    requires { (length update.now ≤ length before.now) × (length update.now ≤ length deltas.now) }
-    ensures { result ≡ unfit_deltas (length update.now) most update.now before.now deltas.now }
+fn unfit_deltas<const N: usize>(
+    most: u8,
+    update: &[u8; N],
+    before: &[i8; N],
+    deltas: &[i8; N],
+) -> bool
+    ensures { result ≡ unfit_deltas N most update.now before.now deltas.now }
 {
-    let mut i = 0;
-    while i < update.len() {
-        if unfit_delta(most, update[i], before[i], deltas[i]) {
-            return true;
-        }
-        i += 1;
-    }
-    false
+    update.iter().zip(before).zip(deltas).any(|((&update, &before), &delta)| unfit_delta(
+        most, update, before, delta,
+    ))
 }
 
-fn refs_before(off: bool, refs: [i8; 8]) -> [i8; 8]
-    ensures { result ≡ cond off default_refs refs }
+// What holds before the header: the defaults where no bits are sent.
+fn before<const N: usize>(off: bool, defaults: [i8; N], given: [i8; N]) -> [i8; N]
+    ensures { result ≡ cond off defaults.entry given.entry }
 {
-    if off {
-        return default_refs();
-    }
-    refs
+    if off { defaults } else { given }
 }
 
-fn modes_before(off: bool, modes: [i8; 2]) -> [i8; 2]
-    ensures { result ≡ cond off default_modes modes }
-{
-    if off {
-        return [0i8; 2];
-    }
-    modes
-}
-
+#[tactic(auto, unfolding(crate::specs::Unfit::unfit_as))]
 pub fn unfit(off: bool, planes: u32, refs: [i8; 8], modes: [i8; 2], p: Params) -> bool
     ensures { result ≡ unfit_as off planes refs modes p }
 {
-    let ref_before = refs_before(off, refs);
-    let mode_before = modes_before(off, modes);
-    let update_ref = p.update_ref;
-    let update_mode = p.update_mode;
-    let ref_delta = p.ref_delta;
-    let mode_delta = p.mode_delta;
+    let ref_before = before(off, default_refs(), refs);
+    let mode_before = before(off, [0; 2], modes);
     unfit_fields(off, planes, p)
         | (p.delta_update > p.delta_enabled)
-        | unfit_deltas(p.delta_update, &update_ref, &ref_before, &ref_delta)
-        | unfit_deltas(p.delta_update, &update_mode, &mode_before, &mode_delta)
+        | unfit_deltas(p.delta_update, &p.update_ref, &ref_before, &p.ref_delta)
+        | unfit_deltas(p.delta_update, &p.update_mode, &mode_before, &p.mode_delta)
 }

@@ -7,7 +7,6 @@ use Prim.Native.Nat.{ℕ, ◌*◌, ◌<◌, ◌≤◌}
 use native.Mathlib.Decide.{ℕ_discrete}
 use native.Mathlib.Omega.{arith}
 use lib.Dec.{ltb}
-use mir.Val.{bool_byte}
 use lib.ListN.{length, get_or}
 use borrow.Author.Tests.{not-false, ltb-false, ne_eqb}
 use Rattle.loops.specs.Any.{any_below}
@@ -19,18 +18,9 @@ use Rattle.block.specs.declared.Block.{Block}
 use Rattle.block.specs.Block.{w4, h4, bw4, bh4, cbw4, cbh4, sees_luma, sees_chroma, Lent}
 use Rattle.block.specs.Tests.{context_bad, number}
 use Rattle.loops.proofs.Bools.{or_off}
-use Rattle.loops.specs.Flag.{on}
 use Rattle.block.proofs.TestsPassed.{coded, placed, sides}
 use Rattle.block.proofs.NoFault.{Passed, free}
 use Rattle.record.specs.Record.{Fitting, Sound}
-
--- a flag as a number
-pub flag-low : (n : ℕ) → bool_byte (on n) < 2
-flag-low n = go (on n)
-  where
-    go : (t : Bool) → bool_byte t < 2
-    go true = omega arith
-    go false = omega arith
 
 context-long : (n most : ℕ) (c : List ℕ) → context_bad n most c ≡ false → n ≤ length c
 context-long n most c e = ltb-false (length c) n (or_off (ltb (length c) n) (any_below n (λ i. ltb most (get_or c i 0))) e).0

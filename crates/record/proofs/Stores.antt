@@ -11,11 +11,10 @@ use borrow.Rule.Slice.PartMut.{mid_of, post_of, put_mid, mid_len, put_same, take
 use Rattle.loops.proofs.Runs.{up_to-again}
 use Rattle.loops.proofs.Products.{part-put}
 use Rattle.units.specs.Units.{chroma_unit}
-use Rattle.units.specs.Memory.{level_at}
 use Rattle.mask_edges.specs.Folds as folds
 use Rattle.block.specs.declared.Block.{Block}
 use Rattle.block.specs.Block.{ss-hor, ss-ver, bw4, bh4, cbw4, cbh4, sees_luma, sees_chroma}
-use Rattle.record.specs.Record.{value_of, fill_row, fill_levels, record_at, in_record, luma_levels, chroma_levels, luma_masks, chroma_masks}
+use Rattle.record.specs.Record.{fill_row, fill_levels, record_at, in_record, luma_masks, chroma_masks}
 
 -- ---- levels
 
@@ -71,15 +70,6 @@ pub levels-step : (at level-stride w u v j : ℕ) (l₀ l l' : List ℕ) → l �
     → l' ≡ fill_levels at level-stride w (j + 1) u v l₀
 unfolding fill_levels
 levels-step at level-stride w u v j l₀ l l' = up_to-again (λ j. fill_row (at + 4 * (j * level-stride)) w u v) j l₀
-
-module _ (b : Block) (level-stride : ℕ) (values ls ls' : List ℕ) (at w h u v : ℕ) (g : ls' ≡ fill_levels at level-stride w h u v ls) where
-  pub luma-filled : sees_luma b ≡ true → at ≡ level_at level-stride b.x.0 b.y.0 0 → w ≡ bw4 b → h ≡ bh4 b → u ≡ value_of b values 0 → v ≡ value_of b values 1
-      → ls' ≡ luma_levels b level-stride values ls
-  luma-filled e ea ew eh eu ev = rw e (g ∙ rw (ea, ew, eh, eu, ev) refl)
-
-  pub chroma-filled : sees_chroma b ≡ true → at ≡ level_at level-stride (chroma_unit (ss-hor b) b.x.0) (chroma_unit (ss-ver b) b.y.0) 2 → w ≡ cbw4 b → h ≡ cbh4 b
-      → u ≡ value_of b values 2 → v ≡ value_of b values 3 → ls' ≡ chroma_levels b level-stride values ls
-  chroma-filled e ea ew eh eu ev = rw e (g ∙ rw (ea, ew, eh, eu, ev) refl)
 
 -- ---- masks
 

@@ -9,7 +9,7 @@
 --   luma_above, luma_left, chroma_above, chroma_left   the contexts
 --   RecordAnswer                   number and memory after a call; tm are the tx_masks of an inter block
 --   Fitting b, Sound b             what the work behind the number asks of a block, for its masks, and for its levels too
-use Rattle.std.specs.Prelude.{true, false, cond, List, ◌++◌, ◌⊎◌, ◌≡◌, ℕ, ◌+◌, ◌-◌, ◌*◌, ◌%◌, ◌<◌, ◌≤◌, eqb, get_or, set, take, drop}
+use Rattle.std.specs.Prelude.{true, false, cond, List, ◌++◌, ◌⊎◌, ◌≡◌, ℕ, ◌+◌, ◌*◌, ◌%◌, ◌<◌, ◌≤◌, eqb, get_or, set, take, drop}
 use mir.Val.{bool_byte}
 use Rattle.loops.specs.Run.{up_to}
 use Rattle.loops.specs.Flag.{on}

@@ -5,16 +5,17 @@ mod level_bytes;
 mod masks;
 
 ghost use Rattle.std.specs.Prelude.{◌≡◌, true, false, [], ◌*◌, ◌<◌, ◌≤◌, length};
+ghost use Rattle.refusals.specs.Numbers.{answered};
 ghost use Rattle.units.specs.Frame.{frame_records};
 ghost use Rattle.block.specs.Block.{w4, h4, bw4, bh4, cbw4, cbh4, sees_luma, sees_chroma, lent};
 ghost use Rattle.record.specs.Record.{intra_of, inter_of, luma_levels, chroma_levels, luma_masks, chroma_masks, luma_above, luma_left, chroma_above, chroma_left};
 ghost use Rattle.record.specs.Record.{RecordAnswer, Sound};
 ghost use Rattle.record.specs.Promises.{Promises};
 
-use block::number::number;
-use block::{Block, chroma_high, chroma_wide, luma_high, luma_wide, seen};
+use block::{Block, chroma_high, chroma_wide, luma_high, luma_wide, refusal, seen};
 use level_bytes::{chroma_levels, luma_levels};
 use masks::{chroma_masks, luma_masks};
+use refusals::Refusal;
 use units::{LumaUnit, Sample};
 
 fn luma(
@@ -40,16 +41,14 @@ fn luma(
         return;
     }
     luma_levels(levels, level_stride, values, b, w, h);
-    let width = w.0;
-    let height = h.0;
     luma_masks(
         masks,
         b,
         w,
         h,
         tx_masks,
-        &mut above[..width],
-        &mut left[..height],
+        &mut above[..w.0],
+        &mut left[..h.0],
     );
 }
 
@@ -78,9 +77,7 @@ fn chroma_pair(
         return;
     }
     chroma_levels(levels, level_stride, values, b, w, h);
-    let width = w.0;
-    let height = h.0;
-    chroma_masks(masks, b, w, h, &mut above[..width], &mut left[..height]);
+    chroma_masks(masks, b, w, h, &mut above[..w.0], &mut left[..h.0]);
 }
 
 // A refused block stores nothing.
@@ -95,13 +92,13 @@ fn record_block(
     left: &mut [u8],
     above_uv: &mut [u8],
     left_uv: &mut [u8],
-) -> u32
+) -> Result<(), Refusal>
     requires { (b.inter ≡ false → b.reference < 8) × (b.mode < 2) }
-    ensures { RecordAnswer b level_stride values.now tx_masks.now result
+    ensures { RecordAnswer b level_stride values.now tx_masks.now (answered result)
         (lent levels.old masks.old above.old left.old above_uv.old left_uv.old)
         (lent levels.new masks.new above.new left.new above_uv.new left_uv.new) }
 {
-    let n = number(
+    refusal::check(
         b,
         level_stride,
         levels,
@@ -110,10 +107,7 @@ fn record_block(
         left,
         above_uv,
         left_uv,
-    );
-    if n != 0 {
-        return n;
-    }
+    )?;
     luma(
         levels,
         level_stride,
@@ -125,7 +119,7 @@ fn record_block(
         left,
     );
     chroma_pair(levels, level_stride, masks, values, b, above_uv, left_uv);
-    0
+    Ok(())
 }
 
 pub fn record_intra(
@@ -146,8 +140,8 @@ pub fn record_intra(
     uvtx: u32,
     above_uv: &mut [u8],
     left_uv: &mut [u8],
-) -> u32
-    ensures { RecordAnswer (intra_of width height layout x y size tx chroma uvtx) level_stride values.now [] result
+) -> Result<(), Refusal>
+    ensures { RecordAnswer (intra_of width height layout x y size tx chroma uvtx) level_stride values.now [] (answered result)
         (lent levels.old masks.old above.old left.old above_uv.old left_uv.old)
         (lent levels.new masks.new above.new left.new above_uv.new left_uv.new) }
 {
@@ -202,8 +196,8 @@ pub fn record_inter(
     uvtx: u32,
     above_uv: &mut [u8],
     left_uv: &mut [u8],
-) -> u32
-    ensures { RecordAnswer (inter_of width height layout x y size tx chroma uvtx skip reference mode) level_stride values.now tx_masks.now result
+) -> Result<(), Refusal>
+    ensures { RecordAnswer (inter_of width height layout x y size tx chroma uvtx skip reference mode) level_stride values.now tx_masks.now (answered result)
         (lent levels.old masks.old above.old left.old above_uv.old left_uv.old)
         (lent levels.new masks.new above.new left.new above_uv.new left_uv.new) }
 {
@@ -220,7 +214,7 @@ pub fn record_inter(
         inter: true,
         skip: skip != 0,
         reference: reference as usize,
-        mode: (mode != 0) as usize,
+        mode: usize::from(mode != 0),
     };
     record_block(
         levels,

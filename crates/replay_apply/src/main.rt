@@ -4,11 +4,19 @@
 
 mod memory;
 mod steps;
+mod stored;
 
 use std::io::{self, Read, Write};
+use stored::Stored;
 
-// A frame of u8 samples.
-fn frame_8<R: Read, W: Write>(input: &mut R, output: &mut W, head: &[u8; 160]) -> io::Result<()> {
+fn frame<R: Read, W: Write, P: Stored>(
+    input: &mut R,
+    output: &mut W,
+    head: &[u8; 160],
+    luma: &mut [P],
+    u: &mut [P],
+    v: &mut [P],
+) -> io::Result<()> {
     let mut e = [0u8; 64];
     wire::u8s_at(head, 32, &mut e);
     let mut i = [0u8; 64];
@@ -17,14 +25,11 @@ fn frame_8<R: Read, W: Write>(input: &mut R, output: &mut W, head: &[u8; 160]) -
     memory::read_bytes(input, wire::u32_at(head, 8), &mut levels)?;
     let mut masks = [0u16; 2560];
     memory::read_words(input, wire::u32_at(head, 12), &mut masks)?;
-    let mut luma = [0u8; 65536];
-    memory::read_bytes(input, wire::u32_at(head, 16), &mut luma)?;
-    let mut u = [0u8; 65536];
-    memory::read_bytes(input, wire::u32_at(head, 20), &mut u)?;
-    let mut v = [0u8; 65536];
-    memory::read_bytes(input, wire::u32_at(head, 24), &mut v)?;
+    P::read(input, wire::u32_at(head, 16), luma)?;
+    P::read(input, wire::u32_at(head, 20), u)?;
+    P::read(input, wire::u32_at(head, 24), v)?;
     let count = wire::u32_at(head, 28);
-    steps::run_8(
+    steps::run(
         input,
         output,
         count,
@@ -32,49 +37,28 @@ fn frame_8<R: Read, W: Write>(input: &mut R, output: &mut W, head: &[u8; 160]) -
         &i,
         &mut levels,
         &mut masks,
-        &mut luma,
-        &mut u,
-        &mut v,
+        luma,
+        u,
+        v,
     )?;
     memory::write_words(output, wire::u32_at(head, 12), &masks)?;
-    memory::write_bytes(output, wire::u32_at(head, 16), &luma)?;
-    memory::write_bytes(output, wire::u32_at(head, 20), &u)?;
-    memory::write_bytes(output, wire::u32_at(head, 24), &v)
+    P::write(output, wire::u32_at(head, 16), luma)?;
+    P::write(output, wire::u32_at(head, 20), u)?;
+    P::write(output, wire::u32_at(head, 24), v)
 }
 
-// A frame of u16 samples.
-fn frame_16<R: Read, W: Write>(input: &mut R, output: &mut W, head: &[u8; 160]) -> io::Result<()> {
-    let mut e = [0u8; 64];
-    wire::u8s_at(head, 32, &mut e);
-    let mut i = [0u8; 64];
-    wire::u8s_at(head, 96, &mut i);
-    let mut levels = [0u8; 20480];
-    memory::read_bytes(input, wire::u32_at(head, 8), &mut levels)?;
-    let mut masks = [0u16; 2560];
-    memory::read_words(input, wire::u32_at(head, 12), &mut masks)?;
+fn bytes<R: Read, W: Write>(input: &mut R, output: &mut W, head: &[u8; 160]) -> io::Result<()> {
+    let mut luma = [0u8; 65536];
+    let mut u = [0u8; 65536];
+    let mut v = [0u8; 65536];
+    frame(input, output, head, &mut luma, &mut u, &mut v)
+}
+
+fn words<R: Read, W: Write>(input: &mut R, output: &mut W, head: &[u8; 160]) -> io::Result<()> {
     let mut luma = [0u16; 65536];
-    memory::read_words(input, wire::u32_at(head, 16), &mut luma)?;
     let mut u = [0u16; 32768];
-    memory::read_words(input, wire::u32_at(head, 20), &mut u)?;
     let mut v = [0u16; 32768];
-    memory::read_words(input, wire::u32_at(head, 24), &mut v)?;
-    let count = wire::u32_at(head, 28);
-    steps::run_16(
-        input,
-        output,
-        count,
-        &e,
-        &i,
-        &mut levels,
-        &mut masks,
-        &mut luma,
-        &mut u,
-        &mut v,
-    )?;
-    memory::write_words(output, wire::u32_at(head, 12), &masks)?;
-    memory::write_words(output, wire::u32_at(head, 16), &luma)?;
-    memory::write_words(output, wire::u32_at(head, 20), &u)?;
-    memory::write_words(output, wire::u32_at(head, 24), &v)
+    frame(input, output, head, &mut luma, &mut u, &mut v)
 }
 
 fn replayed<R: Read, W: Write>(input: &mut R, output: &mut W) -> io::Result<bool> {
@@ -83,20 +67,13 @@ fn replayed<R: Read, W: Write>(input: &mut R, output: &mut W) -> io::Result<bool
         return Ok(false);
     }
     if wire::u32_at(&head, 4) == 0 {
-        frame_8(input, output, &head)?;
+        bytes(input, output, &head)?;
     } else {
-        frame_16(input, output, &head)?;
+        words(input, output, &head)?;
     }
     Ok(true)
 }
 
 fn main(rt: HostRuntime) -> io::Result<()> {
-    let mut input = rt.reader();
-    let mut output = io::writer(&rt);
-    for _ in 0..u64::MAX {
-        if !replayed(&mut input, &mut output)? {
-            break;
-        }
-    }
-    Ok(())
+    wire::replay(&mut rt.reader(), &mut io::writer(&rt), replayed)
 }

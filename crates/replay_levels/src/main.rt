@@ -1,9 +1,10 @@
 // A program: reads headers, writes what `levels` answers. The records are those of oracle/FORMATS.md.
 #![tactic(auto)]
 
+use refusals::{Refusal, answered};
 use std::io::{self, Read, Write};
 
-fn answer(case: &[u8; 576], values: &mut [u8; 512]) -> u32 {
+fn answer(case: &[u8; 576], values: &mut [u8; 512]) -> Result<(), Refusal> {
     let mut base = [0u8; 4];
     wire::u8s_at(case, 4, &mut base);
     let mut ref_delta = [0i8; 8];
@@ -41,18 +42,11 @@ fn replayed<R: Read, W: Write>(input: &mut R, output: &mut W) -> io::Result<bool
     }
     let mut values = [0u8; 512];
     wire::u8s_at(&case, 57, &mut values);
-    let number = answer(&case, &mut values);
+    let number = answered(answer(&case, &mut values));
     write_answer(output, number, &values)?;
     Ok(true)
 }
 
 fn main(rt: HostRuntime) -> io::Result<()> {
-    let mut input = rt.reader();
-    let mut output = io::writer(&rt);
-    for _ in 0..u64::MAX {
-        if !replayed(&mut input, &mut output)? {
-            break;
-        }
-    }
-    Ok(())
+    wire::replay(&mut rt.reader(), &mut io::writer(&rt), replayed)
 }

@@ -24,7 +24,7 @@ fn read_rest<R: Read>(
 fn compare<W: Write>(output: &mut W, script: &[u8], text: &[u8]) -> io::Result<()> {
     let mut out = [0u8; 393255];
     let n = list_call::list(script, &mut out);
-    let m = wire::bytes(n, &out);
+    let m = wire::lent(n, &out);
     if text != &out[..m] {
         output.write_all(b"the listing of the whole script differs\n")?;
     }
@@ -39,7 +39,7 @@ fn compare_whole<W: Write>(
     text: &[u8],
 ) -> io::Result<()> {
     if total < script.len() {
-        let m = wire::bytes(total, script);
+        let m = wire::lent(total, script);
         compare(output, &script[..m], text)?;
     }
     Ok(())
@@ -72,12 +72,5 @@ fn replayed<R: Read, W: Write>(input: &mut R, output: &mut W) -> io::Result<bool
 }
 
 fn main(rt: HostRuntime) -> io::Result<()> {
-    let mut input = rt.reader();
-    let mut output = io::writer(&rt);
-    for _ in 0..u64::MAX {
-        if !replayed(&mut input, &mut output)? {
-            break;
-        }
-    }
-    Ok(())
+    wire::replay(&mut rt.reader(), &mut io::writer(&rt), replayed)
 }

@@ -2,6 +2,10 @@
 // oracle/FORMATS.md.
 #![tactic(auto)]
 
+ghost use Rattle.std.specs.Prelude.{◌+◌, ◌≤◌};
+
+use params::FrameHeader;
+use refusals::Refusal;
 use standard::Params;
 use std::io::{self, Read, Write};
 
@@ -11,38 +15,32 @@ fn place(head: &[u8; 64]) -> usize {
     high * 4294967296 + low
 }
 
-fn refs_before(head: &[u8; 64]) -> [i8; 8] {
-    let mut refs = [0i8; 8];
-    wire::i8s_at(head, 24, &mut refs);
-    refs
+fn bytes_at<const N: usize>(head: &[u8; 64], at: usize) -> [u8; N]
+    requires { at + N ≤ 64 }
+{
+    let mut bytes = [0u8; N];
+    wire::u8s_at(head, at, &mut bytes);
+    bytes
 }
 
-fn modes_before(head: &[u8; 64]) -> [i8; 2] {
-    let mut modes = [0i8; 2];
-    wire::i8s_at(head, 32, &mut modes);
-    modes
+fn deltas_at<const N: usize>(head: &[u8; 64], at: usize) -> [i8; N]
+    requires { at + N ≤ 64 }
+{
+    let mut deltas = [0i8; N];
+    wire::i8s_at(head, at, &mut deltas);
+    deltas
 }
 
 fn given(head: &[u8; 64]) -> Params {
-    let mut level = [0u8; 4];
-    wire::u8s_at(head, 34, &mut level);
-    let mut update_ref = [0u8; 8];
-    wire::u8s_at(head, 41, &mut update_ref);
-    let mut update_mode = [0u8; 2];
-    wire::u8s_at(head, 49, &mut update_mode);
-    let mut ref_delta = [0i8; 8];
-    wire::i8s_at(head, 51, &mut ref_delta);
-    let mut mode_delta = [0i8; 2];
-    wire::i8s_at(head, 59, &mut mode_delta);
     Params {
-        level,
+        level: bytes_at(head, 34),
         sharpness: head[38],
         delta_enabled: head[39],
         delta_update: head[40],
-        update_ref,
-        update_mode,
-        ref_delta,
-        mode_delta,
+        update_ref: bytes_at(head, 41),
+        update_mode: bytes_at(head, 49),
+        ref_delta: deltas_at(head, 51),
+        mode_delta: deltas_at(head, 59),
     }
 }
 
@@ -50,8 +48,9 @@ fn write_head<W: Write>(output: &mut W, number: u32, count: u32) -> io::Result<(
     output.write_all(&[(number % 256) as u8, (count % 256) as u8])
 }
 
-fn unsigned(d: i8) -> u8 {
-    ((deltas::biased(d) + 128) % 256) as u8
+fn write_refusal<W: Write>(output: &mut W, refusal: Refusal) -> io::Result<()> {
+    write_head(output, u32::from(refusal), 0)?;
+    output.write_all(&[0u8; 30])
 }
 
 fn write_bits<W: Write>(output: &mut W, p: Params) -> io::Result<()> {
@@ -61,47 +60,45 @@ fn write_bits<W: Write>(output: &mut W, p: Params) -> io::Result<()> {
     output.write_all(&p.update_mode)
 }
 
-fn write_refs<W: Write>(output: &mut W, d: [i8; 8]) -> io::Result<()> {
-    output.write_all(&d.map(unsigned))
+// The deltas, and padding.
+fn write_deltas<W: Write>(output: &mut W, refs: [i8; 8], modes: [i8; 2]) -> io::Result<()> {
+    output.write_all(&refs.map(|d| d.cast_unsigned()))?;
+    output.write_all(&modes.map(|d| d.cast_unsigned()))?;
+    output.write_all(&[0u8; 3])
 }
 
-// The mode deltas, and padding.
-fn write_modes<W: Write>(output: &mut W, d: [i8; 2]) -> io::Result<()> {
-    output.write_all(&[unsigned(d[0]), unsigned(d[1]), 0, 0, 0])
+fn header(head: &[u8; 64]) -> FrameHeader {
+    FrameHeader {
+        planes: wire::u32_at(head, 4),
+        lossless: wire::u32_at(head, 8),
+        intrabc: wire::u32_at(head, 12),
+        refs: deltas_at(head, 24),
+        modes: deltas_at(head, 32),
+    }
 }
 
 // Lends as many bytes as the record says.
 fn read<W: Write>(output: &mut W, head: &[u8; 64], bytes: &[u8]) -> io::Result<()> {
-    let n = wire::bytes(wire::u8_at(head, 1) as usize, bytes);
-    let a = params::read(
-        &bytes[..n],
-        place(head),
-        wire::u32_at(head, 4),
-        wire::u32_at(head, 8),
-        wire::u32_at(head, 12),
-        refs_before(head),
-        modes_before(head),
-    );
-    write_head(output, a.number, a.count)?;
-    write_bits(output, a.params)?;
-    write_refs(output, a.params.ref_delta)?;
-    write_modes(output, a.params.mode_delta)
+    let n = wire::lent(wire::u8_at(head, 1) as usize, bytes);
+    match params::read(&bytes[..n], place(head), header(head)) {
+        Ok(taken) => {
+            write_head(output, 0, taken.count)?;
+            write_bits(output, taken.params)?;
+            write_deltas(output, taken.params.ref_delta, taken.params.mode_delta)
+        }
+        Err(refusal) => write_refusal(output, refusal),
+    }
 }
 
 fn write<W: Write>(output: &mut W, head: &[u8; 64], bytes: &mut [u8]) -> io::Result<()> {
-    let n = wire::bytes(wire::u8_at(head, 1) as usize, bytes);
-    let w = params::write(
-        &mut bytes[..n],
-        place(head),
-        wire::u32_at(head, 4),
-        wire::u32_at(head, 8),
-        wire::u32_at(head, 12),
-        refs_before(head),
-        modes_before(head),
-        given(head),
-    );
-    write_head(output, w.number, w.count)?;
-    output.write_all(&[0u8; 30])
+    let n = wire::lent(wire::u8_at(head, 1) as usize, bytes);
+    match params::write(&mut bytes[..n], place(head), header(head), given(head)) {
+        Ok(count) => {
+            write_head(output, 0, count)?;
+            output.write_all(&[0u8; 30])
+        }
+        Err(refusal) => write_refusal(output, refusal),
+    }
 }
 
 fn answer<W: Write>(output: &mut W, head: &[u8; 64], bytes: &mut [u8]) -> io::Result<()> {
@@ -125,12 +122,5 @@ fn replayed<R: Read, W: Write>(input: &mut R, output: &mut W) -> io::Result<bool
 }
 
 fn main(rt: HostRuntime) -> io::Result<()> {
-    let mut input = rt.reader();
-    let mut output = io::writer(&rt);
-    for _ in 0..u64::MAX {
-        if !replayed(&mut input, &mut output)? {
-            break;
-        }
-    }
-    Ok(())
+    wire::replay(&mut rt.reader(), &mut io::writer(&rt), replayed)
 }

@@ -4,6 +4,7 @@
 
 ghost use Rattle.std.specs.Prelude.{◌≡◌, length, IfOk};
 
+use refusals::{Refusal, answered};
 use std::io::{self, Read, Write};
 
 fn read_masks<R: Read>(input: &mut R) -> io::Result<[u16; 2560]>
@@ -37,7 +38,7 @@ fn intra(
     left: &mut [u8],
     above_uv: &mut [u8],
     left_uv: &mut [u8],
-) -> u32 {
+) -> Result<(), Refusal> {
     record::record_intra(
         levels,
         wire::u32_at(head, 44) as usize,
@@ -68,7 +69,7 @@ fn inter(
     left: &mut [u8],
     above_uv: &mut [u8],
     left_uv: &mut [u8],
-) -> u32 {
+) -> Result<(), Refusal> {
     let mut tx_masks = [0u16; 2];
     wire::u16s_at(head, 40, &mut tx_masks);
     record::record_inter(
@@ -106,13 +107,13 @@ fn recorded(
     left: &mut [u8],
     above_uv: &mut [u8],
     left_uv: &mut [u8],
-) -> u32 {
-    let l = wire::bytes(wire::u32_at(head, 48) as usize, levels);
-    let m = wire::words(wire::u32_at(head, 52) as usize, masks);
-    let a = wire::bytes(wire::u8_at(head, 56) as usize, above);
-    let b = wire::bytes(wire::u8_at(head, 57) as usize, left);
-    let c = wire::bytes(wire::u8_at(head, 58) as usize, above_uv);
-    let d = wire::bytes(wire::u8_at(head, 59) as usize, left_uv);
+) -> Result<(), Refusal> {
+    let l = wire::lent(wire::u32_at(head, 48) as usize, levels);
+    let m = wire::lent(wire::u32_at(head, 52) as usize, masks);
+    let a = wire::lent(wire::u8_at(head, 56) as usize, above);
+    let b = wire::lent(wire::u8_at(head, 57) as usize, left);
+    let c = wire::lent(wire::u8_at(head, 58) as usize, above_uv);
+    let d = wire::lent(wire::u8_at(head, 59) as usize, left_uv);
     if head[0] == 0 {
         return intra(
             head,
@@ -155,7 +156,7 @@ fn replayed<R: Read, W: Write>(input: &mut R, output: &mut W) -> io::Result<bool
     let mut masks = read_masks(input)?;
     let mut levels = [0u8; 8192];
     wire::read(input, &mut levels)?;
-    let number = recorded(
+    let result = recorded(
         &head,
         &values,
         &mut levels,
@@ -165,7 +166,7 @@ fn replayed<R: Read, W: Write>(input: &mut R, output: &mut W) -> io::Result<bool
         &mut above_uv,
         &mut left_uv,
     );
-    write_number(output, number)?;
+    write_number(output, answered(result))?;
     output.write_all(&above)?;
     output.write_all(&left)?;
     output.write_all(&above_uv)?;
@@ -176,12 +177,5 @@ fn replayed<R: Read, W: Write>(input: &mut R, output: &mut W) -> io::Result<bool
 }
 
 fn main(rt: HostRuntime) -> io::Result<()> {
-    let mut input = rt.reader();
-    let mut output = io::writer(&rt);
-    for _ in 0..u64::MAX {
-        if !replayed(&mut input, &mut output)? {
-            break;
-        }
-    }
-    Ok(())
+    wire::replay(&mut rt.reader(), &mut io::writer(&rt), replayed)
 }

@@ -19,9 +19,8 @@ use Rattle.bit_place.proofs.Places.{length-laid}
 use Rattle.params_read.specs.Reads.{chroma_bits}
 use Rattle.params_lay.specs.Print.{deltas_digits, printed, print, OneBits}
 use Rattle.params_unfit.specs.Unfit.{unfit}
-use Rattle.params.specs.Calls.{no_params, answered, read_of, write_number, WriteAnswer}
+use Rattle.params.specs.Calls.{ParamsAnswer, no_params, answered, read_of, write_number, WriteAnswer}
 use Rattle.round_trips.specs.Promises.{SizedGiven, Sized, Says, Writable, ReadPromised, WritePromised}
-use Rattle.params.specs.declared.ParamsAnswer.{ParamsAnswer}
 use Rattle.params_unfit.proofs.Fits.{fit_on}
 use Rattle.params_lay.proofs.Layings.{length-few, length-printed}
 use Rattle.round_trips.proofs.Counts.{print-bits}

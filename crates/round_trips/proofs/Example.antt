@@ -11,10 +11,9 @@ use Rattle.standard.specs.Header.{◌>>=◌, f, su7, levels, updated, updates, d
 use Rattle.bit_place.specs.Place.{bit_at, bits_from, digits, laid}
 use Rattle.params_lay.specs.Print.{deltas_digits, printed, print}
 use Rattle.params_unfit.specs.Unfit.{unfit}
-use Rattle.params.specs.Calls.{read_of, write_number, WriteAnswer}
+use Rattle.params.specs.Calls.{ParamsAnswer, read_of, write_number, WriteAnswer}
 use Rattle.round_trips.specs.Promises.{SizedGiven, Sized}
 use Rattle.round_trips.specs.Witness.{before, header, place, header_params, changed, changed_params}
-use Rattle.params.specs.declared.ParamsAnswer.{ParamsAnswer}
 use Rattle.round_trips.proofs.Printing.{parse-reads}
 use Rattle.round_trips.proofs.Answers.{written_read}
 

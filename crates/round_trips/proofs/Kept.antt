@@ -9,8 +9,7 @@ use Rattle.bit_place.specs.Place.{bit_at, places, laid}
 use Rattle.limits.specs.Limits.{limits_of}
 use Rattle.levels.specs.Levels.{levels_in, levels_number}
 use Rattle.params_lay.specs.Print.{print}
-use Rattle.params.specs.Calls.{read_of, WriteAnswer, shown}
-use Rattle.params.specs.declared.ParamsAnswer.{ParamsAnswer}
+use Rattle.params.specs.Calls.{ParamsAnswer, read_of, WriteAnswer, shown}
 use Rattle.round_trips.specs.Promises.{ReadPromised, Promises}
 use Rattle.round_trips.proofs.Answers.{is_read, read-promised, write-promised, written_read, read-written, sized-read, read_fits}
 use Rattle.round_trips.proofs.Taken.{taken-limits, taken-levels}

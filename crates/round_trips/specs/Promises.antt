@@ -19,8 +19,7 @@ use Rattle.deltas.specs.Deltas.{delta, Outside}
 use Rattle.limits.specs.Limits.{limits_of}
 use Rattle.levels.specs.Levels.{levels_in, LevelsAnswer}
 use Rattle.bit_place.specs.Place.{bit_at, places, bits_from}
-use Rattle.params.specs.Calls.{no_params, read_of, WriteAnswer, Lent, ReadLent, WriteLent}
-use Rattle.params.specs.declared.ParamsAnswer.{ParamsAnswer}
+use Rattle.params.specs.Calls.{ParamsAnswer, no_params, read_of, WriteAnswer, Lent, ReadLent, WriteLent}
 use Rattle.round_trips.specs.Witness.{before, header, place, header_params, changed, changed_params}
 
 pub record SizedGiven (g : Given) : Type 0 where

@@ -1,3 +1,4 @@
+pub mod Chunks
 pub mod Rows
 pub mod Frames
 pub mod Levels

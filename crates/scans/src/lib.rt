@@ -11,29 +11,18 @@ ghost use Rattle.scans.specs.Or.{four_at, or_units, or_levels, four_lines, or_qu
 ghost use Rattle.scans.specs.Promises.{Promises};
 ghost use Rattle.scans.specs.Scan.{luma_levels_high, chroma_levels_high, samples_high};
 
+use plane::Pixel;
 use units::masks::pass_no;
-use units::{LumaUnit, Sample, least, over};
-
-fn join4(a: u8, b: u8, c: u8, d: u8) -> u32
-    ensures { result ≡ d * 16777216 + c * 65536 + b * 256 + a }
-{
-    d as u32 * 16777216 + c as u32 * 65536 + b as u32 * 256 + a as u32
-}
-
-fn four_at(levels: &[u8], at: usize) -> u32
-    requires { at + 4 ≤ length levels.now }
-    ensures { result ≡ four_at levels.now at }
-{
-    join4(levels[at], levels[at + 1], levels[at + 2], levels[at + 3])
-}
+use units::{LumaUnit, Sample};
 
 fn or_units(levels: &[u8], w: usize, at: usize) -> u32
     requires { at + 4 * w ≤ length levels.now }
     ensures { result ≡ or_units levels.now w at }
 {
-    let mut acc: u32 = 0;
-    for x in 0..w {
-        acc = acc | four_at(levels, at + 4 * x);
+    let (units, _) = levels[at..at + 4 * w].as_chunks::<4>();
+    let mut acc = 0;
+    for unit in units {
+        acc |= u32::from_le_bytes(*unit);
     }
     acc
 }
@@ -44,7 +33,7 @@ fn or_levels(levels: &[u8], level_stride: usize, w: usize, first: usize, n: usiz
 {
     let mut acc: u32 = 0;
     for i in 0..n {
-        acc = acc | or_units(levels, w, 4 * ((first + i) * level_stride));
+        acc |= or_units(levels, w, 4 * ((first + i) * level_stride));
     }
     acc
 }
@@ -62,8 +51,8 @@ fn row_levels(
     requires { LevelsRow (length levels.now) level_stride width height sb k }
     ensures { result ≡ or_levels levels.now level_stride width (k * sb - above) (min height ((k + 1) * sb) - (k * sb - above)) }
 {
-    let first = over(k * sb, above);
-    let last = least(height, k * sb + sb);
+    let first = (k * sb).saturating_sub(above);
+    let last = height.min(k * sb + sb);
     or_levels(levels, level_stride, width, first, last - first)
 }
 
@@ -123,20 +112,20 @@ pub fn chroma_levels_high(
 }
 
 // Four lines, or-ed together.
-fn or_four(s: &[u16], a: usize, b: usize, c: usize, d: usize, w: usize) -> u16
+fn or_four<P: Pixel>(s: &[P], a: usize, b: usize, c: usize, d: usize, w: usize) -> u16
     requires { (a + w ≤ length s.now) × (b + w ≤ length s.now) × (c + w ≤ length s.now) × (d + w ≤ length s.now) }
-    ensures { result ≡ or_below w (four_lines s.now a b c d) }
+    ensures { result ≡ or_below w (four_lines (P.samples s.now) a b c d) }
 {
     let mut acc: u16 = 0;
     for x in 0..w {
-        acc = acc | (s[a + x] | s[b + x] | s[c + x] | s[d + x]);
+        acc |= P::at(s, a + x) | P::at(s, b + x) | P::at(s, c + x) | P::at(s, d + x);
     }
     acc
 }
 
-fn or_quad(s: &[u16], stride: usize, w: usize, a: usize) -> u16
+fn or_quad<P: Pixel>(s: &[P], stride: usize, w: usize, a: usize) -> u16
     requires { (a + 4 * stride ≤ length s.now) × (w ≤ stride) }
-    ensures { result ≡ or_quad s.now stride w a }
+    ensures { result ≡ or_quad (P.samples s.now) stride w a }
 {
     let b = a + stride;
     let c = b + stride;
@@ -144,30 +133,37 @@ fn or_quad(s: &[u16], stride: usize, w: usize, a: usize) -> u16
     or_four(s, a, b, c, d, w)
 }
 
-fn or_samples(s: &[u16], stride: usize, w: usize, first: usize, n: usize) -> u16
+fn or_samples<P: Pixel>(s: &[P], stride: usize, w: usize, first: usize, n: usize) -> u16
     requires { (4 * ((first + n) * stride) ≤ length s.now) × (w ≤ stride) × (0 < stride) }
-    ensures { result ≡ or_samples s.now stride w first n }
+    ensures { result ≡ or_samples (P.samples s.now) stride w first n }
 {
     let mut acc: u16 = 0;
     for i in 0..n {
-        acc = acc | or_quad(s, stride, w, 4 * ((first + i) * stride));
+        acc |= or_quad(s, stride, w, 4 * ((first + i) * stride));
     }
     acc
 }
 
 // The samples of a plane, of `lines` units a row: those of row k and, for rows, of the two lines of units above it.
-fn row_samples(s: &[u16], stride: usize, w: usize, lines: usize, rowwise: bool, k: usize) -> u16
+fn row_samples<P: Pixel>(
+    s: &[P],
+    stride: usize,
+    w: usize,
+    lines: usize,
+    rowwise: bool,
+    k: usize,
+) -> u16
     requires { (4 * ((k + 1) * lines) * stride ≤ length s.now) × (w ≤ stride) × (0 < stride) }
-    ensures { result ≡ or_samples s.now stride w (k * lines - 2 * pass_no (pass_of rowwise)) ((k + 1) * lines - (k * lines - 2 * pass_no (pass_of rowwise))) }
+    ensures { result ≡ or_samples (P.samples s.now) stride w (k * lines - 2 * pass_no (pass_of rowwise)) ((k + 1) * lines - (k * lines - 2 * pass_no (pass_of rowwise))) }
 {
     let pass = pass_no(rowwise);
-    let first = over(k * lines, 2 * pass);
+    let first = (k * lines).saturating_sub(2 * pass);
     or_samples(s, stride, w, first, k * lines + lines - first)
 }
 
 // Number 9 of the samples of a plane; ss_hor and ss_ver are 0 for luma.
-pub fn samples_high(
-    s: &[u16],
+pub fn samples_high<P: Pixel>(
+    s: &[P],
     stride: usize,
     width: Sample,
     height: Sample,
@@ -179,7 +175,7 @@ pub fn samples_high(
     k: usize,
 ) -> bool
     requires { SamplesFit (length s.now) stride width.0 height.0 ss_hor ss_ver sb4.0 k × (ss_hor ≤ 1) × (ss_ver ≤ 1) × (depth < 16) }
-    ensures { result ≡ samples_high s.now stride (2 ^ depth - 1) (stored width.0 ss_hor) (chroma_unit ss_ver sb4.0) (8 * pass_no (pass_of rowwise)) k }
+    ensures { result ≡ samples_high (P.samples s.now) stride (2 ^ depth - 1) (stored width.0 ss_hor) (chroma_unit ss_ver sb4.0) (8 * pass_no (pass_of rowwise)) k }
 {
     let stored = units::frame::stored_side(width, ss_hor);
     let sb = units::chroma_unit(sb4, ss_ver);

@@ -15,8 +15,7 @@ use Rattle.plane.proofs.Pieces.{idle}
 use Rattle.standard.specs.Strength.{limit, blimit, bounds}
 use Rattle.line.specs.Rule.{rule}
 use Rattle.line.specs.Width.{reads}
-use Rattle.limits.specs.declared.LimitAnswer.{LimitAnswer}
-use Rattle.limits.specs.Limits.{table_of, no_table, limits_of}
+use Rattle.limits.specs.Limits.{LimitAnswer, table_of, no_table, limits_of}
 use Rattle.walk.specs.Walk.{thresholds, visit, width_of}
 use Rattle.walk.proofs.WidthsThresholds.{width}
 use Rattle.walk.proofs.Laws as walk

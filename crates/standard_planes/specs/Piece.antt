@@ -10,7 +10,7 @@ use Rattle.plane.specs.Line.{Pass, Piece, ix, Room}
 use Rattle.standard.specs.Line.{filtered}
 use Rattle.standard.specs.declared.Bounds.{Bounds}
 use Rattle.line.specs.Width.{Within, reads}
-use Rattle.limits.specs.declared.LimitAnswer.{LimitAnswer}
+use Rattle.limits.specs.Limits.{LimitAnswer}
 use Rattle.filter.specs.Filter.{level_of}
 use Rattle.checks.specs.declared.Call.{Call}
 use Rattle.checks.specs.Call.{Lent}

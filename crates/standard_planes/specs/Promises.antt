@@ -7,8 +7,7 @@ use Rattle.plane.specs.Plane.{class, act, InRow}
 use Rattle.plane.specs.Three.{Three}
 use Rattle.standard.specs.Strength.{bounds}
 use Rattle.line.specs.Width.{reads}
-use Rattle.limits.specs.declared.LimitAnswer.{LimitAnswer}
-use Rattle.limits.specs.Limits.{limits_of}
+use Rattle.limits.specs.Limits.{LimitAnswer, limits_of}
 use Rattle.checks.specs.declared.Call.{Call}
 use Rattle.checks.specs.Call.{Lent, samples, call_pass, stride_of, Filtered}
 use Rattle.checks.specs.Tests.{number}

@@ -1,5 +1,11 @@
 // The calls that filter, each with its number said.
+use limits::Av1FilterLUT;
+use refusals::{Refusal, answered};
 use std::io;
+
+fn table() -> Av1FilterLUT {
+    limits::limits(0).unwrap()
+}
 
 fn columns(
     row: u32,
@@ -8,8 +14,8 @@ fn columns(
     v: &mut [u8; 4096],
     levels: &[u8; 4096],
     masks: &[u16; 640],
-) -> u32 {
-    let table = limits::limits(0).table;
+) -> Result<(), Refusal> {
+    let table = table();
     apply::columns_8(
         luma, 128, u, v, 64, levels, 32, masks, &table.e, &table.i, 128, 128, 420, 64, 24, 20, row,
     )
@@ -22,14 +28,15 @@ fn rows(
     v: &mut [u8; 4096],
     levels: &[u8; 4096],
     masks: &[u16; 640],
-) -> u32 {
-    let table = limits::limits(0).table;
+) -> Result<(), Refusal> {
+    let table = table();
     apply::rows_8(
         luma, 128, u, v, 64, levels, 32, masks, &table.e, &table.i, 128, 128, 420, 64, 24, 20, row,
     )
 }
 
-fn answered(rt: &impl Print, row: u32, number: u32) -> io::Result<()> {
+fn say_answer(rt: &impl Print, row: u32, answer: Result<(), Refusal>) -> io::Result<()> {
+    let number = answered(answer);
     print!(rt; "{row}: {number}; ")
 }
 
@@ -46,10 +53,10 @@ pub fn call(
     let row = which % 2;
     if which < 2 {
         print!(rt; "columns ")?;
-        return answered(rt, row, columns(row, luma, u, v, levels, masks));
+        return say_answer(rt, row, columns(row, luma, u, v, levels, masks));
     }
     print!(rt; "rows ")?;
-    answered(rt, row, rows(row, luma, u, v, levels, masks))
+    say_answer(rt, row, rows(row, luma, u, v, levels, masks))
 }
 
 pub fn four(

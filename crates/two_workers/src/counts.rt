@@ -2,7 +2,6 @@
 ghost use Rattle.std.specs.Prelude.{◌<◌};
 
 use std::io;
-use std::num::wrapping_add_usize;
 
 // Where the words of a unit's row edges start.
 pub fn luma_rows(unit: usize) -> usize
@@ -21,25 +20,20 @@ pub fn chroma_rows(unit: usize) -> usize
 
 // 0 outside.
 fn word(masks: &[u16; 640], at: usize) -> u16 {
-    if at < 640 { masks[at] } else { 0 }
-}
-
-fn wide(n: u32) -> usize {
-    n as usize
+    masks.get(at).copied().unwrap_or(0)
 }
 
 fn ones(w: u16) -> usize {
-    wide(u16::count_ones(w))
+    w.count_ones() as usize
 }
 
 // Of one class at `units` units, whose words are `step` apart.
-fn edges(masks: &[u16; 640], at: usize, step: usize, units: usize) -> usize {
+fn edges(masks: &[u16; 640], at: usize, step: usize, units: usize) -> usize
+    requires { 0 < step }
+{
     let mut n: usize = 0;
-    let mut place = at;
-    for k in 0..units {
-        n = wrapping_add_usize(n, ones(word(masks, place)));
-        n = wrapping_add_usize(n, ones(word(masks, wrapping_add_usize(place, 1))));
-        place = wrapping_add_usize(place, step);
+    for unit in masks[at.min(640)..].chunks(step).take(units) {
+        n = unit.iter().take(2).fold(n, |n, &w| n.wrapping_add(ones(w)));
     }
     n
 }
@@ -87,9 +81,9 @@ fn near_chroma(masks: &[u16; 640], half: usize) -> usize
 
 // Row edges on the superblock boundary that break the gap rule with the edge above.
 pub fn near(masks: &[u16; 640]) -> usize {
-    let luma = wrapping_add_usize(near_luma(masks, 0), near_luma(masks, 1));
-    let chroma = wrapping_add_usize(near_chroma(masks, 0), near_chroma(masks, 1));
-    wrapping_add_usize(luma, chroma)
+    let luma = near_luma(masks, 0).wrapping_add(near_luma(masks, 1));
+    let chroma = near_chroma(masks, 0).wrapping_add(near_chroma(masks, 1));
+    luma.wrapping_add(chroma)
 }
 
 fn boundary_word(masks: &[u16; 640], at: usize) -> u16 {
@@ -111,9 +105,5 @@ fn boundary_word(masks: &[u16; 640], at: usize) -> u16 {
 
 // The row edges of luma unit 16 and of chroma unit 8, and no other.
 pub fn boundary(masks: &[u16; 640]) -> [u16; 640] {
-    let mut m = [0u16; 640];
-    for k in 0..640 {
-        m[k] = boundary_word(masks, k);
-    }
-    m
+    std::array::from_fn(|k| boundary_word(masks, k))
 }

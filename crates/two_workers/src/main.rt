@@ -11,6 +11,7 @@ mod witness;
 use calls::{call, four};
 use counts::{chroma_rows, luma_rows};
 use planes::{say_checksums, say_column, say_differing, say_first, say_lines};
+use refusals::answered;
 use std::io;
 
 fn say_edges(rt: &impl Print, masks: &[u16; 640]) -> io::Result<()> {
@@ -89,11 +90,7 @@ fn stair(line: usize) -> u8 {
 }
 
 fn stairs() -> [u8; 16384] {
-    let mut s = [0u8; 16384];
-    for k in 0..16384 {
-        s[k] = stair(k / 128);
-    }
-    s
+    std::array::from_fn(|k| stair(k / 128))
 }
 
 fn unruly_masks() -> [u16; 640] {
@@ -186,7 +183,7 @@ fn two_workers(rt: &impl Print, levels: &[u8; 4096], masks: &[u16; 640]) -> io::
 fn main(rt: HostRuntime) -> io::Result<()> {
     let mut levels = [0u8; 4096];
     let mut masks = [0u16; 640];
-    let number = witness::record_all(&mut levels, &mut masks);
+    let number = answered(witness::record_all(&mut levels, &mut masks));
     println!(rt; "1. A frame that meets the hypotheses")?;
     println!(rt;
         "64 blocks of 16x16 recorded, level values 32 28 24 20, sharpness 0: number {number}"

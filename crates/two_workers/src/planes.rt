@@ -2,44 +2,26 @@
 ghost use Rattle.std.specs.Prelude.{◌<◌};
 
 use std::io;
-use std::num::wrapping_add_usize;
 
 // 0 outside.
 fn at(s: &[u8], k: usize) -> u8 {
-    if k < s.len() { s[k] } else { 0 }
+    s.get(k).copied().unwrap_or(0)
 }
 
-fn differs(a: &[u8], b: &[u8], k: usize) -> usize {
-    if at(a, k) == at(b, k) { 0 } else { 1 }
-}
-
-fn differing(a: &[u8], b: &[u8], from: usize, to: usize) -> usize {
-    let mut n: usize = 0;
-    for k in from..to {
-        n = wrapping_add_usize(n, differs(a, b, k));
-    }
-    n
+fn differing(a: &[u8], b: &[u8]) -> usize {
+    a.iter().zip(b).filter(|(x, y)| x != y).count()
 }
 
 fn first(a: &[u8], b: &[u8]) -> usize {
-    for k in 0..a.len() {
-        if differs(a, b, k) == 1 {
-            return k;
-        }
-    }
-    a.len()
+    a.iter().zip(b).position(|(x, y)| x != y).unwrap_or(a.len())
 }
 
 fn mixed(sum: usize, sample: u8) -> usize {
-    (sum % 65521 * 31 + sample as usize) % 65521
+    (sum % 65521 * 31 + usize::from(sample)) % 65521
 }
 
 fn checksum(s: &[u8]) -> usize {
-    let mut sum: usize = 0;
-    for k in 0..s.len() {
-        sum = mixed(sum, at(s, k));
-    }
-    sum
+    s.iter().fold(0, |sum, &sample| mixed(sum, sample))
 }
 
 fn three(rt: &impl Print, luma: usize, u: usize, v: usize) -> io::Result<()> {
@@ -57,9 +39,9 @@ pub fn say_differing(
 ) -> io::Result<()> {
     three(
         rt,
-        differing(luma, luma2, 0, 16384),
-        differing(u, u2, 0, 4096),
-        differing(v, v2, 0, 4096),
+        differing(luma, luma2),
+        differing(u, u2),
+        differing(v, v2),
     )
 }
 
@@ -84,21 +66,14 @@ pub fn say_first(rt: &impl Print, a: &[u8; 16384], b: &[u8; 16384]) -> io::Resul
     )
 }
 
-fn in_line(a: &[u8; 16384], b: &[u8; 16384], line: usize) -> usize
-    requires { line < 128 }
-{
-    differing(a, b, line * 128, line * 128 + 128)
-}
-
 // Line n - 1 has a sample that differs.
 fn wrong(a: &[u8; 16384], b: &[u8; 16384], n: usize) -> bool {
-    if n == 0 {
+    if n == 0 || 128 < n {
         return false;
     }
-    if 128 < n {
-        return false;
-    }
-    0 < in_line(a, b, n - 1)
+    let from = 128 * (n - 1);
+    let to = 128 * n;
+    a[from..to] != b[from..to]
 }
 
 fn say_ends(rt: &impl Print, a: &[u8; 16384], b: &[u8; 16384], line: usize) -> io::Result<()>
@@ -126,8 +101,8 @@ pub fn say_lines(rt: &impl Print, a: &[u8; 16384], b: &[u8; 16384]) -> io::Resul
 
 // Lines 57 to 70 of column 0.
 pub fn say_column(rt: &impl Print, s: &[u8; 16384]) -> io::Result<()> {
-    for line in 57..71 {
-        print!(rt; " {}", at(s, line * 128))?;
+    for line in s.chunks_exact(128).skip(57).take(14) {
+        print!(rt; " {}", at(line, 0))?;
     }
     Ok(())
 }

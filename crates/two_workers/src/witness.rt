@@ -1,5 +1,7 @@
 // A frame of 16x16 blocks: its samples, and its recording.
-ghost use Rattle.std.specs.Prelude.{◌≡◌, ◌<◌, ◌≤◌, length};
+ghost use Rattle.std.specs.Prelude.{◌<◌, ◌≤◌};
+
+use refusals::Refusal;
 
 // The transform of the block in column bx and row by: 4x4, 8x8 or 16x16, alike on both sides of the superblock boundary.
 fn transform(bx: usize, by: usize) -> usize
@@ -57,8 +59,8 @@ fn chroma_sample(x: usize, y: usize) -> u8
 
 pub fn luma() -> [u8; 16384] {
     let mut s = [0u8; 16384];
-    for k in 0..16384 {
-        s[k] = luma_sample(k % 128, k / 128);
+    for (k, sample) in s.iter_mut().enumerate() {
+        *sample = luma_sample(k % 128, k / 128);
     }
     s
 }
@@ -75,8 +77,8 @@ fn chroma_at(k: usize, turned: bool) -> u8
 
 pub fn chroma(turned: bool) -> [u8; 4096] {
     let mut s = [0u8; 4096];
-    for k in 0..4096 {
-        s[k] = chroma_at(k, turned);
+    for (k, sample) in s.iter_mut().enumerate() {
+        *sample = chroma_at(k, turned);
     }
     s
 }
@@ -87,12 +89,12 @@ fn recorded(
     levels: &mut [u8; 4096],
     masks: &mut [u16; 640],
     values: &[u8; 64],
-    above: &mut [u8],
-    left: &mut [u8],
-    above_uv: &mut [u8],
-    left_uv: &mut [u8],
-) -> u32
-    requires { (bx < 8) × (by < 8) × (32 ≡ length above.old) × (32 ≡ length left.old) × (16 ≡ length above_uv.old) × (16 ≡ length left_uv.old) }
+    above: &mut [u8; 32],
+    left: &mut [u8; 32],
+    above_uv: &mut [u8; 16],
+    left_uv: &mut [u8; 16],
+) -> Result<(), Refusal>
+    requires { (bx < 8) × (by < 8) }
 {
     let x = 4 * bx;
     let y = 4 * by;
@@ -128,7 +130,7 @@ fn block(
     left: &mut [u8; 32],
     above_uv: &mut [u8; 16],
     left_uv: &mut [u8; 16],
-) -> u32
+) -> Result<(), Refusal>
     requires { (bx < 8) × (by < 8) }
 {
     let mut values = [0u8; 64];
@@ -141,14 +143,14 @@ fn block(
     )
 }
 
-// Answers the first number that is not 0.
-pub fn record_all(levels: &mut [u8; 4096], masks: &mut [u16; 640]) -> u32 {
+// Up to the first block that is refused.
+pub fn record_all(levels: &mut [u8; 4096], masks: &mut [u16; 640]) -> Result<(), Refusal> {
     let mut above = [2u8; 32];
     let mut left = [2u8; 32];
     let mut above_uv = [1u8; 16];
     let mut left_uv = [1u8; 16];
     for n in 0..64 {
-        let number = block(
+        block(
             n % 8,
             n / 8,
             levels,
@@ -157,10 +159,7 @@ pub fn record_all(levels: &mut [u8; 4096], masks: &mut [u16; 640]) -> u32 {
             &mut left,
             &mut above_uv,
             &mut left_uv,
-        );
-        if number != 0 {
-            return number;
-        }
+        )?;
     }
-    0
+    Ok(())
 }

@@ -35,7 +35,7 @@ pub fn record_of(w4: LumaUnit, x: LumaUnit, y: LumaUnit) -> usize
 pub fn superblock_ok(size: usize) -> bool
     ensures { result ≡ superblock_ok size }
 {
-    (size == 64) | (size == 128)
+    matches!(size, 64 | 128)
 }
 
 pub fn superblock_units(size: usize) -> LumaUnit

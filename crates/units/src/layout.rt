@@ -5,7 +5,7 @@ ghost use Rattle.units.specs.Layout.{layout_ok, has_chroma, ss_hor, ss_ver};
 pub fn layout_ok(layout: usize) -> bool
     ensures { result ≡ layout_ok layout }
 {
-    ((layout == 400) | (layout == 420)) | ((layout == 422) | (layout == 444))
+    matches!(layout, 400 | 420 | 422 | 444)
 }
 
 pub fn has_chroma(layout: usize) -> bool
@@ -17,31 +17,25 @@ pub fn has_chroma(layout: usize) -> bool
 pub fn ss_hor(layout: usize) -> usize
     ensures { result ≡ ss_hor layout }
 {
-    if layout == 444 { 0 } else { 1 }
+    usize::from(layout != 444)
 }
 
 pub fn ss_ver(layout: usize) -> usize
     ensures { result ≡ ss_ver layout }
 {
-    if layout == 420 { 1 } else { 0 }
+    usize::from(layout == 420)
 }
 
 // The subsampling of a plane to the right.
 pub fn plane_ss_hor(luma: bool, layout: usize) -> usize
     ensures { result ≡ cond luma 0 (ss_hor layout) }
 {
-    if luma {
-        return 0;
-    }
-    ss_hor(layout)
+    if luma { 0 } else { ss_hor(layout) }
 }
 
 // And down.
 pub fn plane_ss_ver(luma: bool, layout: usize) -> usize
     ensures { result ≡ cond luma 0 (ss_ver layout) }
 {
-    if luma {
-        return 0;
-    }
-    ss_ver(layout)
+    if luma { 0 } else { ss_ver(layout) }
 }

@@ -1,15 +1,14 @@
-// Luma units, chroma units and samples, counted apart; layouts, the frame, lent memory, the geometry of masks, block and transform sizes,
-// the numbers answered. Units are converted only here. ss is ss_hor or ss_ver.
+// Luma units, chroma units and samples, counted apart; layouts, the frame, lent memory, the geometry of masks, block and transform
+// sizes. Units are converted only here. ss is ss_hor or ss_ver.
 #![tactic(auto)]
 
 pub mod frame;
 pub mod layout;
 pub mod masks;
 pub mod memory;
-pub mod numbers;
 pub mod sizes;
 
-ghost use Rattle.std.specs.Prelude.{◌≡◌, ◌-◌, ◌*◌, ◌<◌, ◌≤◌, min};
+ghost use Rattle.std.specs.Prelude.{◌≡◌, ◌*◌, ◌<◌, ◌≤◌};
 ghost use Rattle.units.specs.Units.{units_of, chroma_unit, chroma_units};
 
 // A place or a count in units of 4 by 4 luma samples.
@@ -19,6 +18,22 @@ pub struct LumaUnit(pub usize);
 // A place or a count in units of 4 by 4 chroma samples.
 #[derive(Clone, Copy)]
 pub struct ChromaUnit(pub usize);
+
+impl From<u8> for LumaUnit {
+    ghost from_gives = { λ n u. u.0 ≡ n };
+
+    fn from(n: u8) -> LumaUnit {
+        LumaUnit(usize::from(n))
+    }
+}
+
+impl From<u8> for ChromaUnit {
+    ghost from_gives = { λ n u. u.0 ≡ n };
+
+    fn from(n: u8) -> ChromaUnit {
+        ChromaUnit(usize::from(n))
+    }
+}
 
 // A place or a count in samples of a plane.
 #[derive(Clone, Copy)]
@@ -58,17 +73,4 @@ pub fn chroma_sample(u: ChromaUnit) -> Sample
     ensures { result.0 ≡ 4 * u.0 }
 {
     Sample(4 * u.0)
-}
-
-pub fn least(a: usize, b: usize) -> usize
-    ensures { result ≡ min a b }
-{
-    if a < b { a } else { b }
-}
-
-// a - b, and 0 where b is more.
-pub fn over(a: usize, b: usize) -> usize
-    ensures { result ≡ a - b }
-{
-    if a < b { 0 } else { a - b }
 }

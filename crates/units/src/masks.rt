@@ -3,28 +3,28 @@ ghost use Rattle.std.specs.Prelude.{◌≡◌, cond, ◌+◌, ◌*◌, ◌<◌, 
 ghost use Rattle.plane.specs.Line.{pass_of, pass_no};
 ghost use Rattle.units.specs.Masks.{luma_word, chroma_word, word_of, unit_words, pass_start, in_record, record_row, first_line, first_half, row_units, half_units, two_halves, luma_bit, chroma_bit};
 
-use crate::{ChromaUnit, LumaUnit, chroma_unit, chroma_units, least, over};
+use crate::{ChromaUnit, LumaUnit, chroma_unit, chroma_units};
 
 pub const RECORD_WORDS: usize = 640;
 
 pub fn pass_no(rowwise: bool) -> usize
     ensures { (result ≡ pass_no (pass_of rowwise)) × (result < 2) }
 {
-    if rowwise { 1 } else { 0 }
+    usize::from(rowwise)
 }
 
 pub fn luma_word(rowwise: bool, unit: LumaUnit, class: u8, half: usize) -> usize
     requires { (unit.0 < 32) × (class < 3) × (half < 2) }
     ensures { result ≡ luma_word (pass_no (pass_of rowwise)) unit.0 class half }
 {
-    ((pass_no(rowwise) * 32 + unit.0) * 3 + class as usize) * 2 + half
+    ((pass_no(rowwise) * 32 + unit.0) * 3 + usize::from(class)) * 2 + half
 }
 
 pub fn chroma_word(rowwise: bool, unit: ChromaUnit, class: u8, half: usize) -> usize
     requires { (unit.0 < 32) × (class < 2) × (half < 2) }
     ensures { result ≡ chroma_word (pass_no (pass_of rowwise)) unit.0 class half }
 {
-    384 + (((pass_no(rowwise) * 32 + unit.0) * 2 + class as usize) * 2 + half)
+    384 + (((pass_no(rowwise) * 32 + unit.0) * 2 + usize::from(class)) * 2 + half)
 }
 
 // The word of an edge's lower half, in its record.
@@ -33,9 +33,10 @@ pub fn edge_word(luma: bool, rowwise: bool, unit: usize, class: u8) -> usize
     ensures { (result ≡ word_of luma (pass_of rowwise) unit class 0) × (result < 639) }
 {
     if luma {
-        return luma_word(rowwise, LumaUnit(unit), class, 0);
+        luma_word(rowwise, LumaUnit(unit), class, 0)
+    } else {
+        chroma_word(rowwise, ChromaUnit(unit), class, 0)
     }
-    chroma_word(rowwise, ChromaUnit(unit), class, 0)
 }
 
 // The words of a unit: two halves for each class.
@@ -50,10 +51,7 @@ pub fn pass_start(luma: bool, rowwise: bool) -> usize
     ensures { (result ≡ pass_start luma (pass_of rowwise)) × (result < 640) }
 {
     let pass = pass_no(rowwise);
-    if luma {
-        return 192 * pass;
-    }
-    384 + 128 * pass
+    if luma { 192 * pass } else { 384 + 128 * pass }
 }
 
 // The same of a record of the frame, by its number.
@@ -69,7 +67,7 @@ pub fn in_record(side: usize, n: usize, rec: usize) -> usize
     requires { (side ≤ 32) × (rec ≤ 128) }
     ensures { result ≡ in_record side n rec }
 {
-    least(side, over(n, rec * side))
+    side.min(n.saturating_sub(rec * side))
 }
 
 // The record row of superblock row k.
@@ -103,7 +101,7 @@ pub fn row_units(ss: usize, h4: LumaUnit, sb4: LumaUnit, k: usize) -> usize
 {
     let sb = chroma_unit(sb4, ss);
     let height = chroma_units(h4, ss);
-    least(sb.0, over(height.0, k * sb.0))
+    sb.0.min(height.0.saturating_sub(k * sb.0))
 }
 
 // The units that a half holds, ss being that of the direction along the pass.
@@ -119,9 +117,10 @@ pub fn two_halves(lo: u16, hi: u16, h: usize) -> u32
     requires { h ≤ 16 }
     ensures { result ≡ two_halves lo hi h }
 {
-    lo as u32 | (hi as u32) << h
+    u32::from(lo) | u32::from(hi) << h
 }
 
+#[tactic(auto, unfolding(crate::specs::Masks::luma_bit))]
 pub fn luma_bit(rowwise: bool, unit: LumaUnit, class: u8, place: LumaUnit) -> usize
     requires { (unit.0 < 32) × (class < 3) × (place.0 < 32) }
     ensures { result ≡ luma_bit (pass_no (pass_of rowwise)) unit.0 class place.0 }
@@ -129,6 +128,7 @@ pub fn luma_bit(rowwise: bool, unit: LumaUnit, class: u8, place: LumaUnit) -> us
     16 * luma_word(rowwise, unit, class, place.0 / 16) + place.0 % 16
 }
 
+#[tactic(auto, unfolding(crate::specs::Masks::chroma_bit))]
 pub fn chroma_bit(ss: usize, rowwise: bool, unit: ChromaUnit, class: u8, place: ChromaUnit) -> usize
     requires { (ss ≤ 1) × (unit.0 < 32) × (class < 2) × (place.0 < 2 * half_units ss) }
     ensures { result ≡ chroma_bit ss (pass_no (pass_of rowwise)) unit.0 class place.0 }

@@ -34,6 +34,7 @@ pub fn masks_ok(len: usize, w4: LumaUnit, h4: LumaUnit) -> bool
     640 * (records_along(w4) * records_along(h4)) <= len
 }
 
+#[tactic(auto, unfolding(crate::specs::Memory::level_at))]
 fn level_at(level_stride: usize, x: usize, y: usize, area: usize) -> usize
     requires { level_at level_stride x y area < 2 ^ 64 }
     ensures { result ≡ level_at level_stride x y area }

@@ -146,79 +146,58 @@ const TX_SPLIT: [u8; 19] = [
     10, // 64x16
 ];
 
+#[tactic(auto, unfolding(standard::specs::Sizes::Num_4x4_Blocks_Wide))]
 pub fn block_wide(code: usize) -> LumaUnit
     requires { code < 22 }
     ensures { result.0 ≡ Num_4x4_Blocks_Wide code }
 {
-    LumaUnit(BLOCK_WIDE[code] as usize)
+    LumaUnit::from(BLOCK_WIDE[code])
 }
 
+#[tactic(auto, unfolding(standard::specs::Sizes::Num_4x4_Blocks_High))]
 pub fn block_high(code: usize) -> LumaUnit
     requires { code < 22 }
     ensures { result.0 ≡ Num_4x4_Blocks_High code }
 {
-    LumaUnit(BLOCK_HIGH[code] as usize)
+    LumaUnit::from(BLOCK_HIGH[code])
 }
 
 // The largest transform of a block.
+#[tactic(auto, unfolding(standard::specs::Sizes::Max_Tx_Size_Rect))]
 pub fn max_tx_rect(code: usize) -> usize
     requires { code < 22 }
     ensures { result ≡ Max_Tx_Size_Rect code }
 {
-    MAX_TX_RECT[code] as usize
+    usize::from(MAX_TX_RECT[code])
 }
 
 // A transform's sides are in units of its own plane.
-fn tx_width(code: usize) -> usize
+#[tactic(auto, unfolding(standard::specs::Sizes::Tx_Wide))]
+pub fn tx_wide<U: From<u8>>(code: usize) -> U
     requires { code < 19 }
-    ensures { result ≡ Tx_Wide code }
+    ensures { U.from_gives (Tx_Wide code) result }
 {
-    TX_WIDE[code] as usize
+    U::from(TX_WIDE[code])
 }
 
-fn tx_height(code: usize) -> usize
+#[tactic(auto, unfolding(standard::specs::Sizes::Tx_High))]
+pub fn tx_high<U: From<u8>>(code: usize) -> U
     requires { code < 19 }
-    ensures { result ≡ Tx_High code }
+    ensures { U.from_gives (Tx_High code) result }
 {
-    TX_HIGH[code] as usize
-}
-
-pub fn luma_tx_wide(code: usize) -> LumaUnit
-    requires { code < 19 }
-    ensures { result.0 ≡ Tx_Wide code }
-{
-    LumaUnit(tx_width(code))
-}
-
-pub fn luma_tx_high(code: usize) -> LumaUnit
-    requires { code < 19 }
-    ensures { result.0 ≡ Tx_High code }
-{
-    LumaUnit(tx_height(code))
-}
-
-pub fn chroma_tx_wide(code: usize) -> ChromaUnit
-    requires { code < 19 }
-    ensures { result.0 ≡ Tx_Wide code }
-{
-    ChromaUnit(tx_width(code))
-}
-
-pub fn chroma_tx_high(code: usize) -> ChromaUnit
-    requires { code < 19 }
-    ensures { result.0 ≡ Tx_High code }
-{
-    ChromaUnit(tx_height(code))
+    U::from(TX_HIGH[code])
 }
 
 // The Rust's `sub`.
+#[tactic(auto, unfolding(standard::specs::Sizes::Split_Tx_Size))]
 pub fn tx_split(code: usize) -> usize
     requires { code < 19 }
     ensures { result ≡ Split_Tx_Size code }
 {
-    TX_SPLIT[code] as usize
+    usize::from(TX_SPLIT[code])
 }
 
+#[tactic(auto, unfolding(crate::specs::Sizes::log2))]
 pub fn luma_class(side: LumaUnit) -> u8
     ensures { result ≡ luma_class side.0 }
 {

@@ -1,5 +1,4 @@
-// The level bytes and a place in them, held by one struct: `WithOffset` of the Rust; the level at an edge. The functions on a slice and
-// numbers do the work.
+// The level bytes and a place in them, held by one struct: `WithOffset` of the Rust; the level at an edge.
 #![tactic(auto)]
 
 ghost use Rattle.std.specs.Prelude.{◌≡◌, ◌<◌, ◌≤◌, length};
@@ -11,18 +10,30 @@ pub struct LevelView<'a> {
     pub offset: usize,
 }
 
-fn current_at(levels: &[u8], at: usize) -> u8
-    requires { at < length levels.now }
-    ensures { result ≡ current_at levels.now at }
-{
-    levels[at]
-}
+impl<'a> LevelView<'a> {
+    pub fn new(levels: &'a [u8], offset: usize) -> LevelView<'a>
+        ensures { (result.data ≡ levels.entry) × (result.offset ≡ offset) }
+    {
+        LevelView {
+            data: levels,
+            offset,
+        }
+    }
 
-fn earlier_at(levels: &[u8], at: usize, back: usize) -> u8
-    requires { (at < length levels.now) × (back ≤ at) }
-    ensures { result ≡ earlier_at levels.now at back }
-{
-    levels[at - back]
+    pub fn current(self) -> u8
+        requires { self.offset < length self.data.now }
+        ensures { result ≡ current_at self.entry.data.now self.entry.offset }
+    {
+        self.data[self.offset]
+    }
+
+    // Of the unit `back` bytes earlier.
+    pub fn earlier(self, back: usize) -> u8
+        requires { (self.offset < length self.data.now) × (back ≤ self.offset) }
+        ensures { result ≡ earlier_at self.entry.data.now self.entry.offset back }
+    {
+        self.data[self.offset - back]
+    }
 }
 
 fn level_used(l: u8, before: u8) -> u8
@@ -34,35 +45,11 @@ fn level_used(l: u8, before: u8) -> u8
     before
 }
 
-pub fn view<'a>(levels: &'a [u8], offset: usize) -> LevelView<'a>
-    ensures { (result.data ≡ levels.entry) × (result.offset ≡ offset) }
-{
-    LevelView {
-        data: levels,
-        offset,
-    }
-}
-
-pub fn current<'a>(v: LevelView<'a>) -> u8
-    requires { v.offset < length v.data.now }
-    ensures { result ≡ current_at v.entry.data.now v.entry.offset }
-{
-    current_at(v.data, v.offset)
-}
-
-// Of the unit `back` bytes earlier.
-pub fn earlier<'a>(v: LevelView<'a>, back: usize) -> u8
-    requires { (v.offset < length v.data.now) × (back ≤ v.offset) }
-    ensures { result ≡ earlier_at v.entry.data.now v.entry.offset back }
-{
-    earlier_at(v.data, v.offset, back)
-}
-
 // Plain parameters, for whoever has no view.
 pub fn filter_level(levels: &[u8], at: usize, back: usize) -> u8
     requires { (at < length levels.now) × (back ≤ at) }
     ensures { result ≡ level_used (current_at levels.now at) (earlier_at levels.now at back) }
 {
-    let v = view(levels, at);
-    level_used(current(v), earlier(v, back))
+    let v = LevelView::new(levels, at);
+    level_used(v.current(), v.earlier(back))
 }

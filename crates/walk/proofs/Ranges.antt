@@ -1,5 +1,5 @@
 -- A walk keeps every sample of the list in the depth's range: a piece does, and by induction on the places so does each visit.
-use Rattle.std.proofs.Common.{◌≡◌, ℕ, zero, suc, ◌+◌, ◌*◌, ◌^◌, ◌<◌, ◌≤◌, Bool, true, false, cond, eqb, ltb, List, length, get_or, refl}
+use Rattle.std.proofs.Common.{◌≡◌, ℕ, zero, suc, ◌+◌, ◌*◌, ◌^◌, ◌<◌, ◌≤◌, Bool, true, false, cond, eqb, ltb, List, get_or, refl}
 use Rattle.bits.specs.Bit.{has_bit}
 use Rattle.bits.specs.Walk.{visits}
 use Rattle.plane.specs.Line.{piece_at}
@@ -31,7 +31,7 @@ carried : (m n line_step sample-step q : ℕ) (s t : List ℕ) → ((j : ℕ) �
 carried m n line_step sample-step q s t f b =
     record { line = λ i h. record { under = λ k w. f (index (q + i * line_step) sample-step k) ((b.line i h).under k w) } }
 
-module _ (depth : ℕ) (e i levels : List ℕ) (u : UnitLine) (s : List ℕ) (d : 8 ≤ depth) (ok : Walkable levels u (length s)) (b : InRange (2 ^ depth) u s) where
+module _ (depth : ℕ) (e i levels : List ℕ) (u : UnitLine) (s : List ℕ) (d : 8 ≤ depth) {size : ℕ} (ok : Walkable levels u size) (b : InRange (2 ^ depth) u s) where
   one_more : (k : ℕ) (t : List ℕ) → ((j : ℕ) → get_or s j 0 < 2 ^ depth → get_or t j 0 < 2 ^ depth) → (z : Bool) → has_bit (set_in u) k ≡ z
       → (j : ℕ) → get_or s j 0 < 2 ^ depth → get_or (cond z (visit_at depth e i levels u k t) t) j 0 < 2 ^ depth
   one_more k t f true z j h =

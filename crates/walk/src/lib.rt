@@ -10,6 +10,7 @@ ghost use Rattle.walk.specs.Walk.{thresholds, highest, len_in, visit, walked};
 ghost use Rattle.walk.specs.Ready.{Walkable, InRange};
 ghost use Rattle.walk.specs.Promises.{Promises};
 
+use plane::Pixel;
 use standard::Bounds;
 
 // At place n, q0 of the first of the four lines is at index q + n * (4 * line_step), the lines line_step apart and a line's samples sample_step; the unit's
@@ -74,62 +75,8 @@ fn thresholds_of(depth: u32, e: &[u8; 64], i: &[u8; 64], l: u8) -> Bounds
     }
 }
 
-fn visit_8(
-    dst: &mut [u8],
-    q: usize,
-    line_step: usize,
-    sample_step: usize,
-    wd: u32,
-    l: u8,
-    e: &[u8; 64],
-    i: &[u8; 64],
-)
-    requires { Width wd × (l < 64) × (reads wd * sample_step ≤ q) × (q + 3 * line_step + (reads wd - 1) * sample_step < length dst.old) }
-    ensures { dst.new ≡ visit 8 e.now i.now line_step sample_step wd l q dst.old }
-{
-    if l == 0 {
-        return;
-    }
-    piece::piece_8(
-        dst,
-        q,
-        line_step,
-        sample_step,
-        wd,
-        thresholds_of(8, e, i, l),
-    );
-}
-
-pub fn walk_8(dst: &mut [u8], l: UnitLine, levels: &[u8], e: &[u8; 64], i: &[u8; 64])
-    requires { Walkable levels.now l (length dst.old) }
-    ensures { dst.new ≡ walked 8 e.now i.now levels.now l dst.old }
-{
-    let vm = l.m0 | l.m1 | l.m2;
-    let mut xy = 1u32;
-    let mut p = l.q;
-    let mut lvl = l.at;
-    while vm & !std::num::wrapping_sub_u32(xy, 1) != 0 {
-        if vm & xy != 0 {
-            let wd = width_of(l.classes, class_of(l.m1, l.m2, xy));
-            visit_8(
-                dst,
-                p,
-                l.line_step,
-                l.sample_step,
-                wd,
-                view::filter_level(levels, lvl, l.back),
-                e,
-                i,
-            );
-        }
-        xy <<= 1; // 0 after bit 31, and the walk stops
-        p += 4 * l.line_step;
-        lvl += l.along;
-    }
-}
-
-fn visit_16(
-    dst: &mut [u16],
+fn visit<P: Pixel>(
+    dst: &mut [P],
     q: usize,
     line_step: usize,
     sample_step: usize,
@@ -140,49 +87,54 @@ fn visit_16(
     depth: u32,
 )
     requires { Width wd × (l < 64) × (reads wd * sample_step ≤ q) × (q + 3 * line_step + (reads wd - 1) * sample_step < length dst.old) × (8 ≤ depth)
-        × (depth ≤ 12) × PieceUnder (2 ^ depth) (reads wd) line_step sample_step q dst.old }
-    ensures { dst.new ≡ visit depth e.now i.now line_step sample_step wd l q dst.old }
+        × (depth ≤ 12) × (2 ^ depth ≤ P.top) × (2 ^ depth < P.top → PieceUnder (2 ^ depth) (reads wd) line_step sample_step q (P.samples dst.old)) }
+    ensures { P.samples dst.new ≡ visit depth e.now i.now line_step sample_step wd l q (P.samples dst.old) }
 {
     if l == 0 {
         return;
     }
-    piece::piece_16(
+    piece::piece(
         dst,
         q,
         line_step,
         sample_step,
         wd,
-        thresholds_of(depth, e, i, l),
+        thresholds_of(P::known(depth, 8), e, i, l),
     );
 }
 
-pub fn walk_16(dst: &mut [u16], l: UnitLine, levels: &[u8], e: &[u8; 64], i: &[u8; 64], depth: u32)
-    requires { (8 ≤ depth) × (depth ≤ 12) × Walkable levels.now l (length dst.old)
-        × InRange (2 ^ depth) l dst.old }
-    ensures { dst.new ≡ walked depth e.now i.now levels.now l dst.old }
+pub fn walk<P: Pixel>(
+    dst: &mut [P],
+    l: UnitLine,
+    levels: &[u8],
+    e: &[u8; 64],
+    i: &[u8; 64],
+    depth: u32,
+)
+    requires { (8 ≤ depth) × (depth ≤ 12) × (2 ^ depth ≤ P.top) × Walkable levels.now l (length dst.old)
+        × (2 ^ depth < P.top → InRange (2 ^ depth) l (P.samples dst.old)) }
+    ensures { P.samples dst.new ≡ walked depth e.now i.now levels.now l (P.samples dst.old) }
 {
     let vm = l.m0 | l.m1 | l.m2;
     let mut xy = 1u32;
-    let mut p = l.q;
-    let mut lvl = l.at;
-    while vm & !std::num::wrapping_sub_u32(xy, 1) != 0 {
+    let mut n = 0;
+    while vm & !xy.wrapping_sub(1) != 0 {
         if vm & xy != 0 {
             let wd = width_of(l.classes, class_of(l.m1, l.m2, xy));
-            visit_16(
+            visit(
                 dst,
-                p,
+                l.q + n * 4 * l.line_step,
                 l.line_step,
                 l.sample_step,
                 wd,
-                view::filter_level(levels, lvl, l.back),
+                view::filter_level(levels, l.at + n * l.along, l.back),
                 e,
                 i,
                 depth,
             );
         }
-        xy <<= 1;
-        p += 4 * l.line_step;
-        lvl += l.along;
+        xy <<= 1; // 0 after bit 31, and the walk stops
+        n += 1;
     }
 }
 

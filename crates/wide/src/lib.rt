@@ -13,8 +13,7 @@ use line::LineSamples;
 fn tap(n: usize, n2: usize, j: usize) -> u32
     ensures { result ≡ tap n n2 j }
 {
-    let d = if j <= n { n - j } else { j - n };
-    if d <= n2 { 2 } else { 1 }
+    if n.abs_diff(j) <= n2 { 2 } else { 1 }
 }
 
 // The place of the sample that tap j takes for the output at place k.
@@ -24,10 +23,7 @@ fn position(n: usize, k: usize, j: usize) -> usize
 {
     let least = 8 - (n + 1);
     let most = 8 + n;
-    if k + j < least + n {
-        return least;
-    }
-    if most < k + j - n { most } else { k + j - n }
+    (k + j).clamp(least + n, most + n) - n
 }
 
 // No width has a sample at place 0.
@@ -57,7 +53,7 @@ fn sum(n: usize, n2: usize, y: &[u32; 24], i: usize) -> u32
 {
     let mut t = 0u32;
     for j in 0..2 * n + 1 {
-        t = t + tap(n, n2, j) * y[i + j];
+        t += tap(n, n2, j) * y[i + j];
     }
     t
 }

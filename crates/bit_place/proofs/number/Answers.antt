@@ -8,33 +8,33 @@ use Rattle.bit_place.specs.Place.{bit_at, number_at}
 use Rattle.bit_place.proofs.number.Goals as goal
 
 pub loop-i-init : goal.loop-i-init
-loop-i-init c = (omega arith, sym (number-none _ _))
+loop-i-init c = sym (number-none _ _)
 
 pub overflow_mul-v : goal.overflow_mul-v
 overflow_mul-v c =
     let l = c.loop-i in
     let a = c.args in
     let h = number-low (bit_at a.bytes.now) (a.at + a.k) l.i (omega arith) in
-    record { fits = omega (arith, l.invariant.1, h) }
+    record { fits = omega (arith, l.invariant, h) }
 
 pub overflow_add-v : goal.overflow_add-v
 overflow_add-v c =
     let l = c.loop-i in
     let a = c.args in
     let h = number-low (bit_at a.bytes.now) (a.at + a.k) l.i (omega arith) in
-    record { fits = omega (arith, l.invariant.1, h) }
+    record { fits = omega (arith, l.invariant, h) }
 
 pub loop-i-preserved : goal.loop-i-preserved
 loop-i-preserved c =
     let l = c.loop-i in
     let a = c.args in
     let e : a.at + a.k + l.i ≡ a.at + (a.k + l.i) = omega arith in
-    (omega arith, rw (add-one l.i, number_more (bit_at a.bytes.now) (a.at + a.k) l.i, e, ← l.invariant.1, ← c.bit.ensures.0) refl)
+    rw (add-one l.i, number_more (bit_at a.bytes.now) (a.at + a.k) l.i, e, ← l.invariant, ← c.bit.ensures.0) refl
 
 pub returns : goal.returns
 returns c =
     let l = c.loop-i in
     let a = c.args in
     let e : l.i ≡ a.n = omega arith in
-    let v = l.invariant.1 ∙ ap (number_at (bit_at a.bytes.now) (a.at + a.k)) e in
+    let v = l.invariant ∙ ap (number_at (bit_at a.bytes.now) (a.at + a.k)) e in
     (v, rw v (number_small _ _ _))

@@ -1,9 +1,7 @@
 -- `chroma_across` meets its contract: the block's side is at most 32 units.
-use mathlib.Core.Path.{refl}
 use native.Mathlib.Omega.{arith}
 use Rattle.units.proofs.Places.{ss-hor-le}
 use Rattle.units.proofs.Rules.{block-rule}
-use Rattle.block.specs.Block.{cbw4}
 use Rattle.block.proofs.chroma_across.Goals as goal
 
 pub chroma_side-requires : goal.chroma_side-requires
@@ -14,7 +12,3 @@ chroma_side-requires c =
       omega (arith, c.requires.2, (block-rule c.args.b.size c.requires.0.2).width.at_most),
       rw c.ss_hor.ensures (ss-hor-le c.args.b.layout),
     )
-
-pub returns : goal.returns
-unfolding cbw4
-returns c = rw (c.chroma_side.ensures, c.luma_units.ensures, c.requires.2, c.ss_hor.ensures) refl

@@ -1,9 +1,7 @@
 -- `chroma_down` meets its contract: the block's side is at most 32 units.
-use mathlib.Core.Path.{refl}
 use native.Mathlib.Omega.{arith}
 use Rattle.units.proofs.Places.{ss-ver-le}
 use Rattle.units.proofs.Rules.{block-rule}
-use Rattle.block.specs.Block.{cbh4}
 use Rattle.block.proofs.chroma_down.Goals as goal
 
 pub chroma_side-requires : goal.chroma_side-requires
@@ -14,7 +12,3 @@ chroma_side-requires c =
       omega (arith, c.requires.2, (block-rule c.args.b.size c.requires.0.2).height.at_most),
       rw c.ss_ver.ensures (ss-ver-le c.args.b.layout),
     )
-
-pub returns : goal.returns
-unfolding cbh4
-returns c = rw (c.chroma_side.ensures, c.luma_units.ensures, c.requires.2, c.ss_ver.ensures) refl

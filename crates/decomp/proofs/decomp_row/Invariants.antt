@@ -1,14 +1,8 @@
 -- The columns passed are done.
 use Rattle.decomp.specs.Folds.{decomp, masks_from}
 use Rattle.loops.specs.Run.{up_to}
-use lib.ListN.{length}
 use mathlib.Core.Path.{◌≡◌}
-use Prim.Native.Nat.{◌-◌, ◌≤◌}
 use Rattle.decomp.proofs.decomp_row.Given as goal
 
 abbrev pub invariant-loop-x_off : goal.invariant-loop-x_off
-invariant-loop-x_off l =
-    (l.x_off ≤ l.n) × (length l.txa ≡ length l.initial.txa) × (l.txa ≡ up_to (decomp (masks_from 0 l.tx_masks) l.max_tx l.y_off) l.x_off l.initial.txa)
-
-abbrev pub decreases-loop-x_off : goal.decreases-loop-x_off
-decreases-loop-x_off l = l.n - l.x_off
+invariant-loop-x_off l = l.txa ≡ up_to (decomp (masks_from 0 l.tx_masks) l.max_tx l.y_off) l.x_off l.initial.txa

@@ -1,12 +1,8 @@
 -- The cells passed are those of both runs.
 use mathlib.Core.Path.{◌≡◌}
-use Prim.Native.Nat.{◌+◌, ◌-◌, ◌≤◌}
-use lib.ListN.{length}
+use Prim.Native.Nat.{◌+◌}
 use Rattle.decomp.specs.Folds.{run}
 use Rattle.decomp.proofs.fill_pair.Given as goal
 
 abbrev pub invariant-loop-i : goal.invariant-loop-i
-invariant-loop-i l = (l.i ≤ l.n) × (length l.txa ≡ length l.initial.txa) × (l.txa ≡ run (2048 + l.at) l.i l.v (run l.at l.i l.u l.initial.txa))
-
-abbrev pub decreases-loop-i : goal.decreases-loop-i
-decreases-loop-i l = l.n - l.i
+invariant-loop-i l = l.txa ≡ run (2048 + l.at) l.i l.v (run l.at l.i l.u l.initial.txa)

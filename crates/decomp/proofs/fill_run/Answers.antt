@@ -1,17 +1,13 @@
--- The cells passed are those of the run.
-use mathlib.Core.Path.{◌≡◌, refl}
-use native.Mathlib.Omega.{arith}
-use lib.ListN.{length-set}
-use Rattle.decomp.proofs.Fills.{run_none, run_step}
+-- The part that is filled is the run.
+use Rattle.std.proofs.Common.{rules, arith, ◌≡◌, ◌+◌, ◌-◌, ℕ, ap, ◌∙◌}
+use lib.ListN.{replicate}
+use borrow.Rule.Slice.PartMut.{mid_len}
+use Rattle.decomp.proofs.Fills.{run-filled}
 use Rattle.decomp.proofs.fill_run.Goals as goal
-
-pub loop-i-init : goal.loop-i-init
-loop-i-init c = (omega arith, refl, run_none _ _ _)
-
-pub loop-i-preserved : goal.loop-i-preserved
-loop-i-preserved c = (omega arith, simp length-set c.loop-i.invariant.1, run_step _ _ _ _ _ c.loop-i.invariant.2)
 
 pub returns : goal.returns
 returns c =
-    let e : c.loop-i.i ≡ c.args.n = omega arith in
-    rw (← e) c.loop-i.invariant.2
+    let a = c.args in
+    let k : a.at + a.n - a.at ≡ a.n = omega arith in
+    let long = mid_len a.at (a.at + a.n) a.txa.now (omega arith) ∙ k in
+    run-filled a.at a.n a.v _ _ (omega arith) (c.fill.ensures.after (λ y p. search rules) ∙ ap (λ (n : ℕ). replicate n a.v) long)

@@ -1,6 +1,5 @@
 -- By the test that answers.
 use Rattle.decomp.proofs.Splits.{split-least, split-deep, split-bit}
-use native.Mathlib.Omega.{arith}
 use mathlib.Core.Path.{◌∙◌}
 use Rattle.decomp.proofs.is_split.Goals as goal
 
@@ -9,11 +8,6 @@ returns-then-from-eq0 c = split-least _ _ _ _ _ c.if-from-eq0.true
 
 pub returns-then-depth-gt1 : goal.returns-then-depth-gt1
 returns-then-depth-gt1 c = split-deep _ _ _ _ _ c.if-depth-gt1.true
-
-pub has-requires : goal.has-requires
-has-requires c =
-    let p = c.requires.near (omega arith) (omega arith) in
-    omega arith
 
 pub returns : goal.returns
 returns c = c.has.ensures ∙ split-bit _ _ _ _ _ c.if-from-eq0.false c.if-depth-gt1.false

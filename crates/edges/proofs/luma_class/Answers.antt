@@ -3,8 +3,8 @@ use mathlib.Core.Path.{sym, ◌∙◌}
 use Rattle.edges.proofs.Classes.{class-2, class-under}
 use Rattle.edges.proofs.luma_class.Goals as goal
 
-pub returns-then-test_bit : goal.returns-then-test_bit
-returns-then-test_bit c = class-2 _ _ (sym c.test_bit.ensures ∙ c.if-test_bit.true)
+pub returns-then-test_bit-clause-class : goal.returns-then-test_bit-clause-class
+returns-then-test_bit-clause-class c = class-2 _ _ (sym c.test_bit.ensures ∙ c.if-test_bit.true)
 
-pub returns : goal.returns
-returns c = c.chroma_class.ensures ∙ class-under _ _ (sym c.test_bit.ensures ∙ c.if-test_bit.false)
+pub returns-clause-class : goal.returns-clause-class
+returns-clause-class c = c.chroma_class.ensures.class ∙ class-under _ _ (sym c.test_bit.ensures ∙ c.if-test_bit.false)

@@ -6,46 +6,18 @@ use Rattle.plane.specs.Line.{rows}
 use Rattle.units.specs.Frame.{records}
 use Rattle.gap.specs.Track.{track, row_words}
 use Rattle.units.proofs.Places.{side-le}
-use Rattle.gap.proofs.Frames.{records-small, record-place, record-in, lines_of, rows_fit, rows_walked}
+use Rattle.gap.proofs.Frames.{record-place, record-in, lines_of, rows_fit, rows_walked}
 use Rattle.gap.proofs.rows_track.Goals as goal
-
-pub overflow_mul-record_row : goal.overflow_mul-record_row
-overflow_mul-record_row c =
-    let a = c.args in
-    omega (
-      arith,
-      records-small (a.k * a.sb4.0 / 32) (records a.w4.0) _ _ c.record_row.ensures c.records_along-records.ensures
-          (omega arith) (omega arith),
-    )
-
-pub overflow_add-record_row : goal.overflow_add-record_row
-overflow_add-record_row c =
-    let a = c.args in
-    omega (
-      arith,
-      records-small (a.k * a.sb4.0 / 32) (records a.w4.0) _ _ c.record_row.ensures c.records_along-records.ensures
-          (omega arith) (omega arith),
-    )
-
-pub record_start-at-requires : goal.record_start-at-requires
-record_start-at-requires c =
-    let a = c.args in
-    omega (
-      arith,
-      c.records_along-records.ensures,
-      records-small (a.k * a.sb4.0 / 32) (records a.w4.0) _ _ c.record_row.ensures c.records_along-records.ensures
-          (omega arith) (omega arith),
-    )
 
 pub part-requires : goal.part-requires
 part-requires c =
     let a = c.args in
     let f = c.requires.0 in
-    let k = lines_of _ a.w4.0 a.h4.0 a.sb4.0 a.k f a.ss (omega arith) in (
-      rows_fit (a.k * a.sb4.0 / 32) (records a.w4.0) _ _ c.record_row.ensures
-          c.records_along-records.ensures a.luma _ a.rec _ _
-          (record-in _ a.w4.0 a.h4.0 a.sb4.0 a.k f a.rec (omega arith)) c.record_start-at.ensures
-          (omega (arith, k.room, side-le a.ss (omega arith), c.first_line-first.ensures, c.chroma_unit-sb.ensures)),
+    let k = lines_of _ a.g.w4.0 a.g.h4.0 a.sb4.0 a.k f a.g.ss_ver (omega arith) in (
+      rows_fit (a.k * a.sb4.0 / 32) (records a.g.w4.0) _ _ c.record_row.ensures
+          c.records_along-records.ensures a.g.luma _ a.rec _ _
+          (record-in _ a.g.w4.0 a.g.h4.0 a.sb4.0 a.k f a.rec (omega arith)) c.record_start-at.ensures
+          (omega (arith, k.room, side-le a.g.ss_ver (omega arith), c.first_line-first.ensures, c.chroma_unit-sb.ensures)),
       omega
           (arith, c.row_units-n.ensures, c.chroma_unit-sb.ensures),
     )
@@ -53,11 +25,11 @@ part-requires c =
 pub returns : goal.returns
 returns c =
     let a = c.args in
-    let b = record-place (a.k * a.sb4.0 / 32) (records a.w4.0) _ _ c.record_row.ensures
-    c.records_along-records.ensures a.luma rows a.rec _
+    let b = record-place (a.k * a.sb4.0 / 32) (records a.g.w4.0) _ _ c.record_row.ensures
+    c.records_along-records.ensures a.g.luma rows a.rec _
     c.record_start-at.ensures in
-    rows_walked a.masks.now a.luma _ _ _ _ _ _
+    rows_walked a.masks.now a.g.luma _ _ _ _ _ _
     (omega (arith, c.row_units-n.ensures, c.chroma_unit-sb.ensures)) c.start.ensures
     c.part.ensures
-    ∙ (λ i. track (row_words a.masks.now a.luma (b i) (c.first_line-first.ensures i))
+    ∙ (λ i. track (row_words a.masks.now a.g.luma (b i) (c.first_line-first.ensures i))
     (c.row_units-n.ensures i) (c.chroma_unit-sb.ensures i))

@@ -1,21 +1,18 @@
--- `any_above` meets its contract: the invariant says that no base level before the counter is above 63.
-use mathlib.Core.Path.{◌≡◌, sym}
-use native.Mathlib.Omega.{arith}
-use borrow.Author.Tests.{lt-ltb, le-ltb}
-use Rattle.loops.proofs.Anys.{any_none, any-true, any-on}
+-- `any_above` meets its contract: the library's test of some level, by place.
+use mathlib.Core.Path.{sym, ap, ◌∙◌}
+use Prim.Native.Nat.{ℕ}
+use borrow.Author.Rules.{rules}
+use borrow.Author.Tests.{tests}
+use lib.Dec.{ltb}
+use lib.ListN.{get_or}
+use Rattle.loops.specs.Any.{any_below}
+use Rattle.std.proofs.lemmas.Iterator.{YieldsList-from_slice}
+use Rattle.std.proofs.lemmas.Iterator.Search.{any_from_yields_List}
+use Rattle.deltas.proofs.Anys.{any-by-place}
 use Rattle.levels.proofs.any_above.Goals as goal
 
-pub loop-k-init : goal.loop-k-init
-loop-k-init c = (omega arith, any_none _)
-
-pub returns-then-base-k-gt63 : goal.returns-then-base-k-gt63
-returns-then-base-k-gt63 c = sym (any-true _ _ c.loop-k.k (omega arith) (lt-ltb 63 _ c.if-base-k-gt63.true))
-
-pub loop-k-smaller : goal.loop-k-smaller
-loop-k-smaller c = omega arith
-
-pub loop-k-preserved : goal.loop-k-preserved
-loop-k-preserved c = (omega arith, any-on _ _ c.loop-k.invariant.1 (le-ltb 63 _ c.if-base-k-gt63.false))
-
 pub returns : goal.returns
-returns c = let e : c.loop-k.k ≡ 4 = omega arith in sym (rw e at c.loop-k.invariant.1)
+returns c =
+    any_from_yields_List (ltb 63) _ _ _ c.any.ensures.ran (YieldsList-from_slice c.args.base.now cc) (λ x b q k. search (rules, tests))
+    ∙ sym (any-by-place (ltb 63) 0 c.args.base.now)
+    ∙ ap (λ (n : ℕ). any_below n (λ k. ltb 63 (get_or c.args.base.now k 0))) c.told-base

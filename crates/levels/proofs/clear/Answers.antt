@@ -1,27 +1,16 @@
--- `clear` meets its contract: the invariant says that the first j bytes are 0.
-use mathlib.Core.Path.{◌≡◌, refl}
+-- `clear` meets its contract: the library's fill of a part is a run of zeros.
+use mathlib.Core.Path.{◌≡◌, ap, ◌∙◌}
+use Prim.Native.Nat.{ℕ, ◌+◌, ◌-◌}
 use native.Mathlib.Omega.{arith}
-use lib.ListN.{length-set}
-use Rattle.levels.proofs.Fills.{stores-none, stores-again}
+use lib.ListN.{length, take, drop, replicate, length-take, length-drop, length-replicate}
+use Rattle.std.proofs.lemmas.Slice.{put_mid-paste}
+use Rattle.levels.proofs.Fills.{stores-zeros}
 use Rattle.levels.proofs.clear.Goals as goal
 
-pub loop-j-init : goal.loop-j-init
-loop-j-init c = (omega arith, refl, stores-none _ _ _)
-
-pub overflow_add-values : goal.overflow_add-values
-overflow_add-values c = omega arith
-
-pub bounds-values-at : goal.bounds-values-at
-bounds-values-at c = omega arith
-
-pub loop-j-smaller : goal.loop-j-smaller
-loop-j-smaller c = omega arith
-
-pub loop-j-preserved : goal.loop-j-preserved
-loop-j-preserved c = (omega arith, simp length-set c.loop-j.invariant.1, stores-again _ _ _ _ _ _ c.loop-j.invariant.2 refl)
-
-pub shape_of-values : goal.shape_of-values
-shape_of-values c = c.loop-j.invariant.1
-
 pub returns : goal.returns
-returns c = let e : c.loop-j.j ≡ c.args.n = omega arith in rw (← e) c.loop-j.invariant.2
+returns c =
+    let a = c.args in
+    let e : length (take (a.at + a.n - a.at) (drop a.at a.values.now)) ≡ a.n = simp (length-take, length-drop) (omega arith) in
+    put_mid-paste _ _ _ _ (replicate a.n 0) a.n (c.fill.ensures.after (λ y h. h) ∙ ap (λ (k : ℕ). replicate k 0) e)
+    (omega arith) (simp length-replicate)
+    ∙ stores-zeros a.at a.n a.values.now c.requires

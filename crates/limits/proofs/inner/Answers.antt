@@ -9,9 +9,9 @@ use Rattle.limits.proofs.inner.Goals as goal
 pub returns-then-sharp-eq0 : goal.returns-then-sharp-eq0
 returns-then-sharp-eq0 c =
     let a = c.args in
-    (c.most.ensures ∙ sym (ap (λ (s : ℕ). limit s a.level) c.if-sharp-eq0.true ∙ limit-none a.level), omega arith)
+    (c.max.ensures ∙ sym (ap (λ (s : ℕ). limit s a.level) c.if-sharp-eq0.true ∙ limit-none a.level), omega arith)
 
 pub returns : goal.returns
 returns c =
     let a = c.args in
-    (c.most-2.ensures ∙ rw c.least.ensures (sym (limit-sharp a.sharp a.level (omega arith) (omega arith))), omega arith)
+    (c.max-2.ensures ∙ rw c.min.ensures (sym (limit-sharp a.sharp a.level (omega arith) (omega arith))), omega arith)

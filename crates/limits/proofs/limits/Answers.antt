@@ -20,9 +20,8 @@ loop-level-preserved c =
     let l = c.loop-level.level in
     let inv = c.loop-level.invariant in
     let hl : l < 64 = search rules in (
-      omega arith,
-      rw (inv.1, c.outer.ensures, c.inner-limit.ensures.0) (fill-next (blimit _) (replicate 64 0) l hl),
-      rw (inv.2, c.inner-limit.ensures.0) (fill-next (limit _) (replicate 64 0) l hl),
+      rw (inv.0, c.outer.ensures, c.inner-limit.ensures.0) (fill-next (blimit _) (replicate 64 0) l hl),
+      rw (inv.1, c.inner-limit.ensures.0) (fill-next (limit _) (replicate 64 0) l hl),
     )
 
 pub returns : goal.returns
@@ -30,4 +29,4 @@ unfolding limits_of
 returns c =
     let inv = c.loop-level.invariant in
     let e : c.loop-level.level ≡ 64 = omega arith in
-    simp (le-ltb 7 _ c.if-sharpness-gt7.false, inv.1, inv.2, e, c.cap.ensures)
+    simp (le-ltb 7 _ c.if-sharpness-gt7.false, inv.0, inv.1, e, c.from.ensures, c.cap.ensures)

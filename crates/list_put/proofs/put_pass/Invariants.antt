@@ -1,6 +1,6 @@
 -- After y lines the edges of y lines are written.
 use mathlib.Core.Path.{◌≡◌}
-use Prim.Native.Nat.{◌-◌, ◌≤◌}
+use Prim.Native.Nat.{◌≤◌}
 use lib.ListN.{length}
 use Rattle.loops.specs.Run.{cat}
 use Rattle.plane.specs.Line.{pass_of}
@@ -9,6 +9,3 @@ use Rattle.list_put.proofs.put_pass.Given as goal
 
 abbrev pub invariant-loop-y : goal.invariant-loop-y
 invariant-loop-y l = (l.y ≤ l.n) × (length l.out ≡ length l.initial.out) × Wrote l.initial.out l.initial.v (cat (line_in (held_in l.p l.levels l.masks) l.p.plane (pass_of l.p.rowwise)) l.y) l.out l.v
-
-abbrev pub decreases-loop-y : goal.decreases-loop-y
-decreases-loop-y l = l.n - l.y

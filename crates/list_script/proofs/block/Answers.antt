@@ -1,49 +1,29 @@
--- Each answer is the one of its test.
-use mathlib.Core.Path.{sym, ◌∙◌}
-use native.Mathlib.Omega.{arith}
+-- Two numbers, three sizes and the word make a block line.
+use Rattle.std.proofs.Common.{arith, ap, refl, sym, ◌∙◌}
 use Rattle.list_fields.specs.Word.{packed}
-use Rattle.list_script.proofs.Lines.{has-less, has-at, block-form, block-empty, block-other, block-line}
+use Rattle.list_script.specs.Line.{line_said}
+use Rattle.list_script.proofs.Lines.{block-form, block-empty, block-other, block-line}
+use Rattle.list_script.proofs.NumeralsRead.{number-stored, numbers-all}
 use Rattle.list_script.proofs.block.Goals as goal
+use Rattle.list_script.proofs.block.Goals.{then-no_words-via-then-no_words, then-no_words-via-else-no_words+then-word}
 
-pub no_numbers-requires : goal.no_numbers-requires
-no_numbers-requires c = has-less _ 7 3 c.requires (omega arith)
-
-pub returns-then-no_numbers : goal.returns-then-no_numbers
-returns-then-no_numbers c = block-form _ (sym c.no_numbers.ensures ∙ c.if-no_numbers.true)
+pub returns-in_err-x : goal.returns-in_err-x
+returns-in_err-x c = ap line_said c.from_residual.ensures ∙ block-form _ (c.in_err-x.ensures.none.0 refl)
 
 pub returns-then-no_words : goal.returns-then-no_words
-returns-then-no_words c = block-empty _ (sym c.no_numbers.ensures ∙ c.if-no_numbers.false) (sym c.no_words.ensures ∙ c.if-no_words.true)
-
-pub word_at-requires : goal.word_at-requires
-word_at-requires c = has-at _ 7 6 c.requires (omega arith)
-
-pub returns-then-word_at-ne-INTRA : goal.returns-then-word_at-ne-INTRA
-unfolding packed
-returns-then-word_at-ne-INTRA c =
-    block-other _ _ (sym c.no_numbers.ensures ∙ c.if-no_numbers.false)
-    (sym c.no_words.ensures ∙ c.if-no_words.false) c.word_at.ensures c.if-word_at-ne-INTRA.true
-
-pub word_at-uv-requires : goal.word_at-uv-requires
-word_at-uv-requires c = has-at _ 7 5 c.requires (omega arith)
-
-pub number_at-requires : goal.number_at-requires
-number_at-requires c = has-at _ 7 1 c.requires (omega arith)
-
-pub number_at-requires-2 : goal.number_at-requires-2
-number_at-requires-2 c = has-at _ 7 2 c.requires (omega arith)
-
-pub word_at-requires-2 : goal.word_at-requires-2
-word_at-requires-2 c =
-    has-at _ 7 3 c.requires (omega arith)
-
-pub word_at-requires-3 : goal.word_at-requires-3
-word_at-requires-3 c =
-    has-at _ 7 4 c.requires (omega arith)
+returns-then-no_words c =
+    let n = numbers-all _ c.in_ok-x.ensures.none.1 in
+    elim c.then-no_words.branch [
+      | then-no_words-via-then-no_words w ↦ block-empty _ n (sym c.no_words.ensures ∙ w.if-no_words.true)
+      | then-no_words-via-else-no_words+then-word w ↦
+          block-other _ _ n (sym c.no_words.ensures ∙ w.if-no_words.false) (w.word.ensures ∙ ap packed w.field_at.ensures) (λ e. w.if-word.true (e ∙ sym w.word-else-no_words.ensures))
+    ]
 
 pub returns : goal.returns
-unfolding packed
 returns c =
-    block-line _ _ _ _ _ _ _ _ _ _ _ (sym c.no_numbers.ensures ∙ c.if-no_numbers.false) (sym c.no_words.ensures ∙ c.if-no_words.false)
-    c.word_at.ensures c.if-word_at-ne-INTRA.false c.word_at-2.ensures c.word_at-3.ensures c.word_at-uv.ensures
-    c.number_at.ensures c.number_at-2.ensures c.block_code.ensures c.tx_code.ensures
-    c.chroma_of.ensures c.uvtx_of.ensures
+    let n = c.in_ok-x.ensures in
+    block-line _ _ _ _ (packed c.field_at-4.result.now) _ _ _ _ _ _ (numbers-all _ n.none.1) (sym c.no_words.ensures ∙ c.if-no_words.false)
+    (c.word.ensures ∙ ap packed c.field_at.ensures) (c.if-word.false ∙ c.word-else-no_words.ensures)
+    (c.word-2.ensures ∙ ap packed c.field_at-2.ensures) (c.word-3.ensures ∙ ap packed c.field_at-3.ensures) (ap packed c.field_at-4.ensures)
+    (number-stored 2 0 _ _ n.some (omega arith)) (number-stored 2 1 _ _ n.some (omega arith)) c.block_code.ensures c.tx_code.ensures
+    c.uvtx.ensures.0 c.uvtx.ensures.1

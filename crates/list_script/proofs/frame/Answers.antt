@@ -1,33 +1,14 @@
--- Each answer is the one of its test.
-use mathlib.Core.Path.{sym, ◌∙◌}
-use native.Mathlib.Omega.{arith}
-use Rattle.list_script.proofs.Lines.{has-at, frame-form, frame-line}
+-- Six numbers make a frame line.
+use Rattle.std.proofs.Common.{arith, ap, refl, ◌∙◌}
+use Rattle.list_script.specs.Line.{line_said}
+use Rattle.list_script.proofs.Lines.{frame-form, frame-line}
+use Rattle.list_script.proofs.NumeralsRead.{number-stored, numbers-all}
 use Rattle.list_script.proofs.frame.Goals as goal
 
-pub returns-then-no_numbers : goal.returns-then-no_numbers
-returns-then-no_numbers c = frame-form _ (sym c.no_numbers.ensures ∙ c.if-no_numbers.true)
-
-pub number_at-requires : goal.number_at-requires
-number_at-requires c = has-at _ 7 1 c.requires (omega arith)
-
-pub number_at-requires-2 : goal.number_at-requires-2
-number_at-requires-2 c = has-at _ 7 2 c.requires (omega arith)
-
-pub number_at-requires-3 : goal.number_at-requires-3
-number_at-requires-3 c = has-at _ 7 3 c.requires (omega arith)
-
-pub number_at-requires-4 : goal.number_at-requires-4
-number_at-requires-4 c = has-at _ 7 4 c.requires (omega arith)
-
-pub number_at-requires-5 : goal.number_at-requires-5
-number_at-requires-5 c = has-at _ 7 5 c.requires (omega arith)
-
-pub number_at-requires-6 : goal.number_at-requires-6
-number_at-requires-6 c = has-at _ 7 6 c.requires (omega arith)
+pub returns-in_err-width : goal.returns-in_err-width
+returns-in_err-width c = ap line_said c.from_residual.ensures ∙ frame-form _ (c.in_err-width.ensures.none.0 refl)
 
 pub returns : goal.returns
 returns c =
-    frame-line _ _ _ _ _ _ _ (sym c.no_numbers.ensures
-    ∙ c.if-no_numbers.false) c.number_at.ensures
-    c.number_at-2.ensures
-    c.number_at-3.ensures c.number_at-4.ensures c.number_at-5.ensures c.number_at-6.ensures
+    let n = c.in_ok-width.ensures in
+    frame-line _ _ _ _ _ _ _ (numbers-all _ n.none.1) (number-stored 6 0 _ _ n.some (omega arith)) (number-stored 6 1 _ _ n.some (omega arith)) (number-stored 6 2 _ _ n.some (omega arith)) (number-stored 6 3 _ _ n.some (omega arith)) (number-stored 6 4 _ _ n.some (omega arith)) (number-stored 6 5 _ _ n.some (omega arith))

@@ -10,12 +10,12 @@ pub returns-then-start_of-s : goal.returns-then-start_of-s
 returns-then-start_of-s c = line-five _ _ _ c.start_of.ensures c.if-start_of-s.true c.level.ensures
 
 pub seven-requires : goal.seven-requires
-seven-requires c = has_of _ 7 _ c.requires (omega arith) c.start_of-2.ensures c.if-start_of-s-2.true
+seven-requires c = has_of _ 7 _ c.requires (omega arith) c.start_of-else-start_of-s.ensures c.if-start_of-s-2.true
 
 pub returns-then-start_of-s-2 : goal.returns-then-start_of-s-2
 returns-then-start_of-s-2 c =
-    line-seven _ _ _ _ c.start_of.ensures c.if-start_of-s.false c.start_of-2.ensures
+    line-seven _ _ _ _ c.start_of.ensures c.if-start_of-s.false c.start_of-else-start_of-s.ensures
     c.if-start_of-s-2.true c.seven.ensures
 
-pub returns : goal.returns
-returns c = line-form _ _ _ c.start_of.ensures c.if-start_of-s.false c.start_of-2.ensures c.if-start_of-s-2.false
+pub returns-else-start_of-s-2 : goal.returns-else-start_of-s-2
+returns-else-start_of-s-2 c = line-form _ _ _ c.start_of.ensures c.if-start_of-s.false c.start_of-else-start_of-s.ensures c.if-start_of-s-2.false

@@ -1,20 +1,19 @@
--- Each answer is the one of its test.
-use native.Mathlib.Omega.{arith}
+-- The word says which line.
+use Rattle.std.proofs.Common.{ap, sym, ◌∙◌}
 use Rattle.list_fields.specs.Word.{packed}
-use Rattle.list_script.proofs.Lines.{has-at, seven-frame, seven-block, seven-form}
+use Rattle.list_script.proofs.Lines.{seven-frame, seven-block, seven-form}
 use Rattle.list_script.proofs.seven.Goals as goal
 
-pub word_at-w-requires : goal.word_at-w-requires
-word_at-w-requires c = has-at _ 7 0 c.requires (omega arith)
+pub returns-then-w-word : goal.returns-then-w-word
+returns-then-w-word c =
+    seven-frame _ _ _ (c.word-w.ensures ∙ ap packed c.field_at.ensures) (c.if-w-word.true ∙ c.word.ensures) c.frame.ensures
 
-pub returns-then-w-eq-FRAME : goal.returns-then-w-eq-FRAME
-unfolding packed
-returns-then-w-eq-FRAME c = seven-frame _ _ _ c.word_at-w.ensures c.if-w-eq-FRAME.true c.frame.ensures
+pub returns-then-w-word-2 : goal.returns-then-w-word-2
+returns-then-w-word-2 c =
+    seven-block _ _ _ (c.word-w.ensures ∙ ap packed c.field_at.ensures) (λ e. c.if-w-word.false (e ∙ sym c.word.ensures))
+    (c.if-w-word-2.true ∙ c.word-else-w-word.ensures) c.block.ensures
 
-pub returns-then-w-eq-BLOCK : goal.returns-then-w-eq-BLOCK
-unfolding packed
-returns-then-w-eq-BLOCK c = seven-block _ _ _ c.word_at-w.ensures c.if-w-eq-FRAME.false c.if-w-eq-BLOCK.true c.block.ensures
-
-pub returns : goal.returns
-unfolding packed
-returns c = seven-form _ _ c.word_at-w.ensures c.if-w-eq-FRAME.false c.if-w-eq-BLOCK.false
+pub returns-else-w-word-2 : goal.returns-else-w-word-2
+returns-else-w-word-2 c =
+    seven-form _ _ (c.word-w.ensures ∙ ap packed c.field_at.ensures) (λ e. c.if-w-word.false (e ∙ sym c.word.ensures))
+    (λ e. c.if-w-word-2.false (e ∙ sym c.word-else-w-word.ensures))

@@ -1,41 +1,22 @@
--- After a refusal nothing changes; else the line is counted, and a frame, a level or a block line does what its own function ensures.
-use mathlib.Core.Path.{ap}
-use Rattle.list_steps.specs.Steps.{Kept, kept_of}
-use Rattle.list_steps.specs.declared.Carried.{Carried}
+-- After a refusal nothing changes; else the line is counted, and taken.
+use Rattle.std.proofs.Common.{◌∙◌, ap, sym}
+use Rattle.list_steps.specs.Steps.{Kept, kept_of, said, taken}
+use Rattle.list_steps.proofs.Faults.{fault-some, fault-none}
 use Rattle.list_steps.proofs.Lines.{step-none, step-taken}
 use Rattle.list_steps.proofs.step.Goals as goal
 
-pub returns-then-s-ne0 : goal.returns-then-s-ne0
-returns-then-s-ne0 c = let a = c.args in step-none (kept_of a.c a.levels.now a.masks.now) _ c.if-s-ne0.true
+pub returns-then-is_some : goal.returns-then-is_some
+returns-then-is_some c = step-none (kept_of c.args.c c.args.levels.now c.args.masks.now) _ (fault-some _ (sym c.is_some.ensures ∙ c.if-is_some.true))
 
-pub returns-in-Frame : goal.returns-in-Frame
-returns-in-Frame c =
+pub returns-in-Ok : goal.returns-in-Ok
+returns-in-Ok c =
     let a = c.args in
-    let k : Carried → Kept = λ r. kept_of r a.levels.now a.masks.now in
-    step-taken (k a.c) a.line.now c.if-s-ne0.false (ap k c.counted-d.ensures) c.said-l.ensures
-    c.in-Frame.is
-    (c.frame_line.ensures a.levels.now a.masks.now)
+    step-taken (kept_of a.c a.levels.now a.masks.now) a.line.now (fault-none _ (sym c.is_some.ensures ∙ c.if-is_some.false))
+    (c.in-Ok.ensures ∙ ap (λ (k : Kept). taken k (said a.line.now)) (c.counted-d.ensures a.levels.now a.masks.now))
 
-pub returns-in-Level : goal.returns-in-Level
-returns-in-Level c =
+pub returns-in-Err : goal.returns-in-Err
+returns-in-Err c =
     let a = c.args in
-    let k : Carried → Kept = λ r. kept_of r a.levels.now a.masks.now in
-    step-taken (k a.c) a.line.now c.if-s-ne0.false (ap k c.counted-d.ensures) c.said-l.ensures
-    c.in-Level.is
-    (c.level_line.ensures a.levels.now a.masks.now)
-
-pub returns-in-Block : goal.returns-in-Block
-returns-in-Block c =
-    let a = c.args in
-    let k : Carried → Kept = λ r. kept_of r a.levels.now a.masks.now in
-    step-taken (k a.c) a.line.now c.if-s-ne0.false (ap k c.counted-d.ensures) c.said-l.ensures
-    c.in-Block.is
-    c.block_line.ensures
-
-pub returns-in-Form : goal.returns-in-Form
-returns-in-Form c =
-    let a = c.args in
-    let k : Carried → Kept = λ r. kept_of r a.levels.now a.masks.now in
-    step-taken (k a.c) a.line.now c.if-s-ne0.false (ap k c.counted-d.ensures) c.said-l.ensures
-    c.in-Form.is
-    (ap k c.refused.ensures)
+    step-taken (kept_of a.c a.levels.now a.masks.now) a.line.now (fault-none _ (sym c.is_some.ensures ∙ c.if-is_some.false))
+    (c.refused.ensures c.taken.new.levels c.taken.new.masks ∙ c.in-Err.ensures
+    ∙ ap (λ (k : Kept). taken k (said a.line.now)) (c.counted-d.ensures a.levels.now a.masks.now))

@@ -12,7 +12,6 @@ use native.Mathlib.Omega.{arith}
 use mathlib.Core.Bool.{true, false}
 use mathlib.Core.Path.{◌≡◌, ap, ◌∙◌}
 use Prim.Native.Nat.{ℕ}
-use borrow.Author.Rules.{rules}
 use Rattle.mask_edges.proofs.mask_edges_luma.Goals as goal
 use Rattle.mask_edges.proofs.mask_edges_luma.Goals.{After-txa-1}
 
@@ -30,23 +29,20 @@ pub one_transform-requires : goal.one_transform-requires
 one_transform-requires c =
     let p = c.requires in
     let w = tx-rule _ p.1 in
-    (p.0, rw c.luma_tx_wide-w.ensures w.width.low, rw c.luma_tx_high-h.ensures w.height.low)
+    (p.0, rw c.tx_wide-w.ensures w.width.low, rw c.tx_high-h.ensures w.height.low)
 
 pub returns-then-is_whole : goal.returns-then-is_whole
 unfolding Words
 returns-then-is_whole c =
     let g = c.args in
     let p = c.requires in
-    let w = c.luma_tx_wide-w.ensures in
-    let h = c.luma_tx_high-h.ensures in
+    let w = c.tx_wide-w.ensures in
+    let h = c.tx_high-h.ensures in
     let s = whole-at g.inter g.tx g.w4.0 g.h4.0 _ _ (get_or g.tx_masks.now 0 0) _ c.is_whole.ensures w h
     c.if-is_whole.true in
     let W = whole-luma g.tx_masks.now g.tx g.w4.0 g.h4.0 g.by4.0 g.bx4.0 g.skip g.a.now g.l.now g.masks.now p.0
     (λ i. omega (arith, c.slice_known-1.given i)) g.inter p.2 s in
     let E = c.one_transform.ensures in record { masks = E.masks _ w h ∙ W.0; above = E.above ∙ ap (λ (k : ℕ). stores g.w4.0 (λ _. luma_class k) g.a.now) h ∙ W.1; left = E.left ∙ ap (λ (k : ℕ). stores g.h4.0 (λ _. luma_class k) g.l.now) w ∙ W.2 }
-
-pub decomp_block-requires : goal.decomp_block-requires
-decomp_block-requires c = (search rules, covered c)
 
 pub mask_cells-requires : goal.mask_cells-requires
 mask_cells-requires c =

@@ -6,7 +6,7 @@ use Rattle.narrow.proofs.move_by.Goals as goal
 pub returns-then-x-half : goal.returns-then-x-half
 returns-then-x-half c =
     let a = c.args in
-    moved_plain a.half a.s a.a a.b _ (omega arith) (omega arith) c.if-x-half.true c.wrapping_sub_u32-x.ensures.value
+    moved_plain a.half a.s a.a a.b _ (omega arith) (omega arith) c.if-x-half.true (omega arith)
 
 pub returns-then-up-b : goal.returns-then-up-b
 returns-then-up-b c =

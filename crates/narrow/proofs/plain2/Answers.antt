@@ -1,28 +1,14 @@
 -- The line is the standard's where it is known: no sum leaves the range that its clamp keeps.
 use Rattle.std.proofs.Common.{◌+◌, ◌-◌, ◌*◌, ◌/◌, true, get_or, sym, refl, ap, ◌∙◌, arith}
-use mathlib.Core.Bool.{false≢true}
 use Rattle.standard.specs.Narrow.{narrow}
 use Rattle.line.specs.Place.{of}
 use Rattle.line.proofs.Narrow.{moved_plain, eighth-small, plain-hev}
 use Rattle.line.proofs.Place.{fourteen}
 use Rattle.narrow.proofs.plain2.Goals as goal
 
-pub returns-then-not-unclamped : goal.returns-then-not-unclamped
-returns-then-not-unclamped c = λ e. absurd (false≢true e)
-
-pub returns-then-not-unclamped-2 : goal.returns-then-not-unclamped-2
-returns-then-not-unclamped-2 c = λ e. absurd (false≢true e)
-
-pub returns-then-p0-half : goal.returns-then-p0-half
-returns-then-p0-half c = λ e. absurd (false≢true e)
-
-pub returns-then-q0-half : goal.returns-then-q0-half
-returns-then-q0-half c = λ e. absurd (false≢true e)
-
 pub returns : goal.returns
 unfolding narrow
 returns c =
-    λ _.
     let a = c.args in
     let k = c.requires in
     let h = a.half in
@@ -36,7 +22,7 @@ returns c =
     let n = plain-hev h (of l) v j.0 j.1 w i.0 (omega arith) (omega arith) refl (omega arith) refl in
     fourteen _ (narrow h true (of l)) refl refl refl refl refl
     (sym (ap (λ w. get_or w 0 0) n))
-    (moved_plain h l.p0 g2 h _ k.1 (omega arith) c.if-p0-half.false c.wrapping_sub_u32-p0.ensures.value ∙ sym (ap (λ w. get_or w 1 0) n))
-    (moved_plain h l.q0 h g1 _ k.1 (eighth-small h (of l) v j.0 j.1 k.1) c.if-q0-half.false c.wrapping_sub_u32-q0.ensures.value ∙ sym (ap (λ w. get_or w 2 0) n))
+    (moved_plain h l.p0 g2 h _ k.depth.most (omega arith) c.if-p0-half.false (omega arith) ∙ sym (ap (λ w. get_or w 1 0) n))
+    (moved_plain h l.q0 h g1 _ k.depth.most (eighth-small h (of l) v j.0 j.1 k.depth.most) c.if-q0-half.false (omega arith) ∙ sym (ap (λ w. get_or w 2 0) n))
     (sym (ap (λ w. get_or w 3 0) n))
     refl refl refl refl refl

@@ -1,25 +1,14 @@
 -- The line is the standard's where it is known: no sum leaves the range that its clamp keeps.
 use Rattle.std.proofs.Common.{◌+◌, ◌-◌, ◌*◌, ◌/◌, false, get_or, sym, refl, ap, ◌∙◌, arith}
-use mathlib.Core.Bool.{false≢true}
 use Rattle.standard.specs.Narrow.{narrow}
 use Rattle.line.specs.Place.{of}
 use Rattle.line.proofs.Narrow.{moved-mid, moved_plain, plain_flat}
 use Rattle.line.proofs.Place.{fourteen}
 use Rattle.narrow.proofs.plain4.Goals as goal
 
-pub returns-then-not-unclamped : goal.returns-then-not-unclamped
-returns-then-not-unclamped c = λ e. absurd (false≢true e)
-
-pub returns-then-p1-half : goal.returns-then-p1-half
-returns-then-p1-half c = λ e. absurd (false≢true e)
-
-pub returns-then-q1-half : goal.returns-then-q1-half
-returns-then-q1-half c = λ e. absurd (false≢true e)
-
 pub returns : goal.returns
 unfolding narrow
 returns c =
-    λ _.
     let a = c.args in
     let k = c.requires in
     let h = a.half in
@@ -31,8 +20,8 @@ returns c =
     let j = c.unclamped.ensures (c.if-not-unclamped.false) in
     let n = plain_flat h (of l) v j.0 j.1 (omega arith) refl in
     fourteen _ (narrow h false (of l)) refl refl refl refl refl
-    (moved_plain h l.p1 g3 h _ k.1 (omega arith) c.if-p1-half.false c.wrapping_sub_u32-p1.ensures.value ∙ sym (ap (λ w. get_or w 0 0) n))
+    (moved_plain h l.p1 g3 h _ k.depth.most (omega arith) c.if-p1-half.false (omega arith) ∙ sym (ap (λ w. get_or w 0 0) n))
     (moved-mid h l.p0 g2 h (omega arith) (omega arith) ∙ sym (ap (λ w. get_or w 1 0) n))
     (moved-mid h l.q0 h g1 (omega arith) (omega arith) ∙ sym (ap (λ w. get_or w 2 0) n))
-    (moved_plain h l.q1 h g3 _ k.1 (omega arith) c.if-q1-half.false c.wrapping_sub_u32-q1.ensures.value ∙ sym (ap (λ w. get_or w 3 0) n))
+    (moved_plain h l.q1 h g3 _ k.depth.most (omega arith) c.if-q1-half.false (omega arith) ∙ sym (ap (λ w. get_or w 3 0) n))
     refl refl refl refl refl

@@ -5,9 +5,8 @@ use Prim.Native.Nat.{◌-◌, ◌*◌}
 use native.Mathlib.Omega.{arith}
 use borrow.Author.Tests.{leb-true}
 use lib.ListN.{length}
-use Rattle.loops.specs.Flag.{on}
+use Rattle.params.specs.Calls.{given_by}
 use Rattle.loops.proofs.Bools.{no, yes}
-use Rattle.standard.specs.Header.{given}
 use Rattle.params_unfit.specs.Unfit.{unfit_as}
 use Rattle.params_unfit.proofs.Fits.{fit_on}
 use Rattle.params_lay.proofs.Layings.{length-printed}
@@ -17,41 +16,38 @@ use Rattle.params.proofs.write.Goals as goal
 pub returns-then-unfit : goal.returns-then-unfit
 returns-then-unfit c =
     let a = c.args in
-    write-unfit (given a.planes (on a.lossless) (on a.intrabc) a.refs a.modes) a.params a.at a.bytes.now (sym c.unfit.ensures ∙ c.if-unfit.true)
+    write-unfit (given_by a.header) a.params a.at a.bytes.now (rw c.is_off-off.ensures at (sym c.unfit.ensures ∙ c.if-unfit.true))
 
 pub returns-then-off : goal.returns-then-off
 returns-then-off c =
     let a = c.args in
-    write-off (given a.planes (on a.lossless) (on a.intrabc) a.refs a.modes) a.params a.at a.bytes.now (sym c.unfit.ensures
-    ∙ c.if-unfit.false) c.if-off.true
+    write-off (given_by a.header) a.params a.at a.bytes.now (rw c.is_off-off.ensures at (sym c.unfit.ensures ∙ c.if-unfit.false)) (sym c.is_off-off.ensures ∙ c.if-off.true)
 
 pub count-n-requires : goal.count-n-requires
 count-n-requires c =
     let a = c.args in
-    let u : unfit_as false a.planes a.refs a.modes a.params ≡ false = rw c.if-off.false at (sym c.unfit.ensures ∙ c.if-unfit.false) in
-    fit-bits a.planes a.refs a.modes a.params (fit_on a.planes a.refs a.modes a.params u)
+    let u : unfit_as false a.header.planes a.header.refs a.header.modes a.params ≡ false = rw c.if-off.false at (sym c.unfit.ensures ∙ c.if-unfit.false) in
+    fit-bits a.header.planes a.header.refs a.header.modes a.params (fit_on a.header.planes a.header.refs a.header.modes a.params u)
 
 pub returns-then-not-has_room : goal.returns-then-not-has_room
 returns-then-not-has_room c =
     let a = c.args in
-    write-short (given a.planes (on a.lossless) (on a.intrabc) a.refs a.modes) a.params a.at a.bytes.now (sym
-    c.unfit.ensures ∙ c.if-unfit.false) c.if-off.false c.count-n.result
+    write-short (given_by a.header) a.params a.at a.bytes.now (rw c.is_off-off.ensures at (sym c.unfit.ensures ∙ c.if-unfit.false)) (sym c.is_off-off.ensures ∙ c.if-off.false) c.count-n.result
     c.count-n.ensures.0
     (no c.has_room.ensures c.if-not-has_room.true)
 
 pub lay-requires : goal.lay-requires
 lay-requires c =
     let a = c.args in
-    let u : unfit_as false a.planes a.refs a.modes a.params ≡ false = rw c.if-off.false at (sym
+    let u : unfit_as false a.header.planes a.header.refs a.header.modes a.params ≡ false = rw c.if-off.false at (sym
     c.unfit.ensures ∙ c.if-unfit.false) in
     let n = c.count-n in
     let le = leb-true n.result (8 * length a.bytes.now - a.at) (yes c.has_room.ensures c.if-not-has_room.false) in
-    (fit-bits a.planes a.refs a.modes a.params (fit_on a.planes a.refs a.modes a.params u), omega (arith, le, n.ensures.0, length-printed a.planes a.params))
+    (fit-bits a.header.planes a.header.refs a.header.modes a.params (fit_on a.header.planes a.header.refs a.header.modes a.params u), omega (arith, le, n.ensures.0, length-printed a.header.planes a.params))
 
 pub returns : goal.returns
 returns c =
     let a = c.args in
-    write_done (given a.planes (on a.lossless) (on a.intrabc) a.refs a.modes) a.params a.at a.bytes.now (sym c.unfit.ensures
-    ∙ c.if-unfit.false) c.if-off.false
+    write_done (given_by a.header) a.params a.at a.bytes.now (rw c.is_off-off.ensures at (sym c.unfit.ensures ∙ c.if-unfit.false)) (sym c.is_off-off.ensures ∙ c.if-off.false)
     c.count-n.result c.count-n.ensures.0
     (yes c.has_room.ensures c.if-not-has_room.false) _ c.lay.ensures

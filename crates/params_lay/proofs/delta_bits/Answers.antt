@@ -6,26 +6,17 @@ use Rattle.params_lay.proofs.Layings.{deltas-none, length_more}
 use Rattle.params_lay.proofs.delta_bits.Goals as goal
 
 pub loop-i-init : goal.loop-i-init
-loop-i-init c = (omega arith, omega arith, λ ds. rw (deltas-none c.args.update.now ds) refl)
-
-pub overflow_cast-k : goal.overflow_cast-k
-overflow_cast-k c = let h = c.requires.2 c.loop-i.i (omega arith) in record { fits = omega (arith, h) }
-
-pub overflow_mul-k : goal.overflow_mul-k
-overflow_mul-k c = let h = c.requires.2 c.loop-i.i (omega arith) in record { fits = omega (arith, h) }
-
-pub overflow_add-k-in-loop-i : goal.overflow_add-k-in-loop-i
-overflow_add-k-in-loop-i c = let h = c.requires.2 c.loop-i.i (omega arith) in record { fits = omega (arith, h) }
+loop-i-init c = (omega arith, λ ds. rw (deltas-none c.args.update.now ds) refl)
 
 pub loop-i-preserved : goal.loop-i-preserved
 loop-i-preserved c =
     let l = c.loop-i in
     let us = c.args.update.now in
     let h = c.requires.2 l.i (omega arith) in
-    (omega arith, omega (arith, h), λ ds. rw (add-one l.i, length_more us ds l.i) (omega (arith, l.invariant.2 ds)))
+    (omega (arith, h), λ ds. rw (add-one l.i, length_more us ds l.i) (omega (arith, l.invariant.1 ds)))
 
 pub returns : goal.returns
 returns c =
     let l = c.loop-i in
     let e : l.i ≡ c.args.n = omega arith in
-    (λ ds. rw (← e) (l.invariant.2 ds), omega arith)
+    (λ ds. rw (← e) (l.invariant.1 ds), omega arith)

@@ -22,14 +22,6 @@ lay_switches-requires c =
     let kept : length c.lay_levels.new.bytes ≡ length c.args.bytes.now = search rules in
     (omega (arith, bits.1), c.requires.0.enabled, omega (arith, kept, bits.0, length-printed c.args.planes c.args.p, c.requires.1))
 
-pub slice_bounds-lay_deltas-end : goal.slice_bounds-lay_deltas-end
-slice_bounds-lay_deltas-end c =
-    sym (c.well_formed.1.1.1.0.1.1.1.1.1.1.0.1.0.1)
-
-pub slice_bounds-lay_deltas-end-2 : goal.slice_bounds-lay_deltas-end-2
-slice_bounds-lay_deltas-end-2 c =
-    sym (c.well_formed.1.1.1.0.1.1.1.1.1.1.1.1.0.1.0.1)
-
 pub lay_deltas-m-requires : goal.lay_deltas-m-requires
 lay_deltas-m-requires c =
     let one = c.requires.0 in
@@ -45,14 +37,6 @@ lay_deltas-m-requires c =
       λ i h. one.refs i (omega (arith, h, one.update)),
       omega (arith, kept, kept₁, bits.0, length-printed c.args.planes c.args.p, c.requires.1),
     )
-
-pub slice_bounds-lay_deltas-end-3 : goal.slice_bounds-lay_deltas-end-3
-slice_bounds-lay_deltas-end-3 c =
-    sym (c.well_formed.1.1.1.0.1.1.1.1.1.1.1.0.1.0.1)
-
-pub slice_bounds-lay_deltas-end-4 : goal.slice_bounds-lay_deltas-end-4
-slice_bounds-lay_deltas-end-4 c =
-    sym (c.well_formed.1.1.1.0.1.1.1.1.1.1.1.1.1.0.1.0.1)
 
 pub lay_deltas-requires : goal.lay_deltas-requires
 lay_deltas-requires c =

@@ -1,6 +1,6 @@
 -- `lay_deltas` meets its contract: the invariant says that the first i are laid.
 use mathlib.Core.Path.{◌≡◌}
-use Prim.Native.Nat.{◌+◌, ◌-◌, ◌*◌, ◌≤◌}
+use Prim.Native.Nat.{◌+◌, ◌*◌, ◌≤◌}
 use lib.ListN.{length}
 use Rattle.bit_place.specs.Place.{laid}
 use Rattle.params_lay.specs.Print.{deltas_digits}
@@ -8,11 +8,7 @@ use Rattle.params_lay.proofs.lay_deltas.Given as goal
 
 abbrev pub invariant-loop-i : goal.invariant-loop-i
 invariant-loop-i l =
-    (l.i ≤ l.n)
-    × (l.k ≡ l.from + length (deltas_digits l.update l.deltas l.i))
+    (l.k ≡ l.from + length (deltas_digits l.update l.deltas l.i))
     × (l.k ≤ l.from + 8 * l.i)
     × (length l.bytes ≡ length l.initial.bytes)
     × (l.bytes ≡ laid (deltas_digits l.update l.deltas l.i) (l.at + l.from) l.initial.bytes)
-
-abbrev pub decreases-loop-i : goal.decreases-loop-i
-decreases-loop-i l = l.n - l.i

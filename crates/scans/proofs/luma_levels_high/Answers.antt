@@ -3,14 +3,7 @@ use mathlib.Core.Path.{◌∙◌}
 use native.Mathlib.Omega.{arith}
 use Rattle.scans.specs.Scan.{levels_high}
 use Rattle.scans.proofs.Levels.{levels-high}
-use Rattle.scans.proofs.Frames.{levels-row}
 use Rattle.scans.proofs.luma_levels_high.Goals as goal
-
-pub row_levels-r-requires : goal.row_levels-r-requires
-row_levels-r-requires c =
-    let a = c.args in
-    levels-row _ _ a.w4.0 a.h4.0 0 0 a.sb4.0 _ _ _ _ c.requires (omega arith) (omega arith) (omega arith) (omega arith)
-    (omega arith)
 
 pub returns : goal.returns
 returns c =

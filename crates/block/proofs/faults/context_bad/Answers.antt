@@ -1,27 +1,13 @@
--- `context_bad` meets its contract: the invariant says that no value before the counter is above the range.
-use mathlib.Core.Path.{◌≡◌}
-use native.Mathlib.Omega.{arith}
-use borrow.Author.Tests.{le-ltb}
-use Rattle.loops.proofs.Anys.{any_none, any-on}
-use Rattle.block.proofs.TestsPassed.{context-short, context-high, context-good}
+-- `context_bad` meets its contract: where the context is long enough, `any` asks the first n values.
+use Rattle.std.proofs.Common.{rules, tests, arith, ltb, ◌≡◌, length, take, false, ◌∙◌}
+use Rattle.std.proofs.lemmas.Iterator.{YieldsList-from_slice}
+use Rattle.std.proofs.lemmas.Iterator.Search.{any_from_yields_List}
+use Rattle.block.proofs.Contexts.{any-among}
 use Rattle.block.proofs.faults.context_bad.Goals as goal
 
-pub returns-then-ctx-n : goal.returns-then-ctx-n
-returns-then-ctx-n c = context-short c.args.n c.args.most c.args.ctx.now c.if-ctx-n.true
-
-pub loop-i-init : goal.loop-i-init
-loop-i-init c = (omega arith, any_none _)
-
-pub returns-then-most-ctx : goal.returns-then-most-ctx
-returns-then-most-ctx c =
-    context-high c.args.n c.args.most
-    c.args.ctx.now c.loop-i.i c.if-ctx-n.false
-    c.loop-i-test.true c.if-most-ctx.true
-
-pub loop-i-preserved : goal.loop-i-preserved
-loop-i-preserved c = (omega arith, any-on _ _ c.loop-i.invariant.1 (le-ltb _ _ c.if-most-ctx.false))
-
-pub returns : goal.returns
-returns c = let e : c.loop-i.i ≡ c.args.n = omega arith in
-    context-good c.args.n c.args.most c.args.ctx.now c.loop-i.i e
-    c.if-ctx-n.false c.loop-i.invariant.1
+pub returns-else-ctx-n : goal.returns-else-ctx-n
+returns-else-ctx-n c =
+    let ctx = c.args.ctx.now in
+    let asked = any_from_yields_List (ltb c.args.most) _ _ c.any.result c.any.ensures.ran (YieldsList-from_slice (take c.args.n ctx) cc) (λ x b q k. search (rules, tests)) in
+    let short : ltb (length ctx) c.args.n ≡ false = search (rules, tests) in
+    rw short (asked ∙ any-among (ltb c.args.most) c.args.n ctx (omega arith))

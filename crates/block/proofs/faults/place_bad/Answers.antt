@@ -1,5 +1,4 @@
 -- `place_bad` meets its contract: a block's sides are not 0.
-use mathlib.Core.Path.{refl}
 use native.Mathlib.Omega.{arith}
 use Rattle.units.proofs.Rules.{block-rule}
 use Rattle.block.proofs.faults.place_bad.Goals as goal
@@ -9,7 +8,3 @@ nonzero_rem-odd c = omega (arith, c.requires.1, (block-rule c.args.b.size c.requ
 
 pub nonzero_rem-odd-2 : goal.nonzero_rem-odd-2
 nonzero_rem-odd-2 c = omega (arith, c.requires.2, (block-rule c.args.b.size c.requires.0.2).height.low)
-
-pub returns : goal.returns
-returns c =
-    rw (c.requires.1, c.requires.2, c.luma_units.ensures, c.luma_units-2.ensures) refl

@@ -6,21 +6,11 @@ use Rattle.checks.proofs.faults.levels_bad.Goals as goal
 pub returns-then-not-inside : goal.returns-then-not-inside
 returns-then-not-inside c = levels-out c.args.c _ (no c.inside.ensures c.if-not-inside.true)
 
-pub luma_high-luma-requires : goal.luma_high-luma-requires
-luma_high-luma-requires c = (c.requires.0, yes c.inside.ensures c.if-not-inside.false, c.requires.1)
-
 pub returns-then-not-chroma_on : goal.returns-then-not-chroma_on
 returns-then-not-chroma_on c =
     levels-luma c.args.c _
     (yes c.inside.ensures c.if-not-inside.false) (no c.chroma_on.ensures c.if-not-chroma_on.true)
     c.luma_high-luma.ensures
-
-pub chroma_high-requires : goal.chroma_high-requires
-chroma_high-requires c = (
-  c.requires.0,
-  yes c.inside.ensures c.if-not-inside.false,
-  c.requires.1,
-)
 
 pub returns : goal.returns
 returns c =

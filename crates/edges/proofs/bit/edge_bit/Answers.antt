@@ -11,13 +11,6 @@ nonzero_div-along c = let a = c.args in omega (arith, lies a.ss_hor a.ss_ver a.w
 pub nonzero_div-across : goal.nonzero_div-across
 nonzero_div-across c = let a = c.args in omega (arith, lies a.ss_hor a.ss_ver a.w4.0 a.across a.along c.requires)
 
-pub record_bit-requires : goal.record_bit-requires
-record_bit-requires c =
-    let a = c.args in
-    let n = c.requires in
-    let p = lies a.ss_hor a.ss_ver a.w4.0 a.across a.along n in
-    (n.width, omega (arith, p.along-right, n.along-le), omega (arith, p.across-down, n.across-le))
-
 pub nonzero_rem-across : goal.nonzero_rem-across
 nonzero_rem-across c = let a = c.args in omega (arith, lies a.ss_hor a.ss_ver a.w4.0 a.across a.along c.requires)
 
@@ -50,13 +43,6 @@ nonzero_div-across-2 c = let a = c.args in omega (arith, lies a.ss_hor a.ss_ver 
 
 pub nonzero_div-along-2 : goal.nonzero_div-along-2
 nonzero_div-along-2 c = let a = c.args in omega (arith, lies a.ss_hor a.ss_ver a.w4.0 a.across a.along c.requires)
-
-pub record_bit-requires-2 : goal.record_bit-requires-2
-record_bit-requires-2 c =
-    let a = c.args in
-    let n = c.requires in
-    let p = lies a.ss_hor a.ss_ver a.w4.0 a.across a.along n in
-    (n.width, omega (arith, p.across-right, n.across-le), omega (arith, p.along-down, n.along-le))
 
 pub nonzero_rem-across-2 : goal.nonzero_rem-across-2
 nonzero_rem-across-2 c = let a = c.args in omega (arith, lies a.ss_hor a.ss_ver a.w4.0 a.across a.along c.requires)

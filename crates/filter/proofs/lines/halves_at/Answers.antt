@@ -9,5 +9,5 @@ returns-then-n-eq2 c = c.two_halves.ensures ∙ both_halves c.args.masks.now c.a
     c.if-n-eq2.true
 
 pub returns : goal.returns
-returns c = c.as_u32.ensures ∙ one-half c.args.masks.now c.args.at
+returns c = c.from.ensures ∙ one-half c.args.masks.now c.args.at
     c.args.first c.args.n c.args.h c.if-n-eq2.false

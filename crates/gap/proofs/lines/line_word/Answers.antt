@@ -4,5 +4,5 @@ use Rattle.gap.proofs.lines.line_word.Goals as goal
 
 pub returns : goal.returns
 returns c =
-    word-make _ _ _ _ _ _ _ c.least.ensures c.over.ensures
+    word-make _ _ _ _ _ _ _ c.min.ensures c.saturating_sub.ensures
     c.half_word.ensures c.half_word-2.ensures c.two_halves.ensures

@@ -2,48 +2,18 @@
 use mathlib.Core.Path.{◌≡◌, ap}
 use Prim.Native.Nat.{ℕ, ◌*◌}
 use native.Mathlib.Omega.{arith}
-use Rattle.units.specs.Masks.{unit_words}
-use Rattle.gap.proofs.StoredWords.{class-in, last-in, some-class, few-classes, class-word, no-class}
+use Rattle.gap.proofs.StoredWords.{some-class, few-classes, class-word, no-class}
 use Rattle.gap.proofs.track.class_word.Goals as goal
 
 -- the words before the unit
 before : (w i u : ℕ) → w ≡ u → w * i ≡ u * i
 before w i u = ap (λ (n : ℕ). n * i)
 
-pub overflow_mul-first : goal.overflow_mul-first
-overflow_mul-first c = let a = c.args in omega (arith, before _ a.i (unit_words a.luma) c.unit_words.ensures)
-
-pub overflow_add-first : goal.overflow_add-first
-overflow_add-first c = let a = c.args in omega (arith, before _ a.i (unit_words a.luma) c.unit_words.ensures)
-
-pub overflow_add-first-2 : goal.overflow_add-first-2
-overflow_add-first-2 c =
-    let a = c.args in
-    omega (arith, before _ a.i (unit_words a.luma) c.unit_words.ensures, last-in a.luma a.c (omega arith))
-
-pub word-requires : goal.word-requires
-word-requires c =
-    let a = c.args in
-    omega (
-      arith,
-      before _ a.i (unit_words a.luma) c.unit_words.ensures,
-      class-in a.luma a.c (some-class a.luma a.c c.if-luma.true (omega arith)),
-    )
-
 pub returns-then-luma : goal.returns-then-luma
 returns-then-luma c =
     let a = c.args in
     class-word a.masks.now a.luma a.halves a.at a.i a.c _ _ c.unit_words.ensures
     (some-class a.luma a.c c.if-luma.true (omega arith)) c.word.ensures
-
-pub word-requires-then-c-lt2 : goal.word-requires-then-c-lt2
-word-requires-then-c-lt2 c =
-    let a = c.args in
-    omega (
-      arith,
-      before _ a.i (unit_words a.luma) c.unit_words.ensures,
-      class-in a.luma a.c (few-classes a.luma a.c (omega arith)),
-    )
 
 pub returns-then-c-lt2 : goal.returns-then-c-lt2
 returns-then-c-lt2 c =

@@ -1,18 +1,7 @@
--- As `block_code`.
-use mathlib.Core.Path.{◌≡◌, sym, ◌∙◌}
-use native.Mathlib.Omega.{arith}
-use borrow.Author.Tests.{eq-eqb, ne_eqb}
-use Rattle.list_script.proofs.Tables.{first-none, first_on, first-hit, tx-named}
+-- The table has the name of each code.
+use Rattle.std.proofs.Common.{◌∙◌, ap, eqb}
+use Rattle.list_script.proofs.Tables.{first-same, tx-named}
 use Rattle.list_script.proofs.names.tx_code.Goals as goal
 
-pub loop-c-init : goal.loop-c-init
-loop-c-init c = (omega arith, first-none _)
-
-pub returns-then-c-w : goal.returns-then-c-w
-returns-then-c-w c = sym (first-hit 19 _ c.loop-c.c c.loop-c.invariant.1 (eq-eqb _ _ (sym (tx-named c.loop-c.c (omega arith)) ∙ c.if-c-w.true)) (omega arith))
-
-pub loop-c-preserved : goal.loop-c-preserved
-loop-c-preserved c = (omega arith, first_on _ _ c.loop-c.invariant.1 (ne_eqb _ _ (λ e. c.if-c-w.false (tx-named c.loop-c.c (omega arith) ∙ e))))
-
 pub returns : goal.returns
-returns c = let e : c.loop-c.c ≡ 19 = omega arith in sym (rw e at c.loop-c.invariant.1)
+returns c = c.code_in.ensures ∙ first-same 19 _ _ (λ k h. ap (λ n. eqb n c.args.w) (tx-named k h))

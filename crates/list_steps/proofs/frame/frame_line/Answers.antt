@@ -1,22 +1,20 @@
--- The line comes out of turn, is refused by its number, or begins the frame.
-use mathlib.Core.Path.{ap}
-use Rattle.list_steps.specs.Steps.{kept_of}
-use Rattle.list_steps.specs.declared.Carried.{Carried}
-use Rattle.list_steps.proofs.Lines.{frame-form, frame_refused, frame-done}
+-- The line is refused by its number, or begins the frame.
+use Rattle.std.proofs.Common.{rules, ◌≡◌, Err, ap, refl}
+use Rattle.list_steps.specs.State.{phase_number}
+use Rattle.list_steps.specs.Steps.{kept_of, after_line}
+use Rattle.list_steps.specs.declared.Fault.TheVariants.{Refused}
+use Rattle.list_steps.specs.declared.Phase.TheVariants.{Start}
+use Rattle.list_steps.proofs.Faults.{refused-some}
+use Rattle.list_steps.proofs.Lines.{frame_refused, frame-done}
 use Rattle.list_steps.proofs.frame.frame_line.Goals as goal
 
-pub returns-then-s-ne0 : goal.returns-then-s-ne0
-returns-then-s-ne0 c = λ l m. frame-form (kept_of c.args.c l m) _ _ _ _ _ _ c.if-s-ne0.true
-    (ap (λ (r : Carried). kept_of r l m) c.refused.ensures)
-
-pub returns-then-n-ne-DONE : goal.returns-then-n-ne-DONE
-returns-then-n-ne-DONE c = λ l m.
-    frame_refused (kept_of c.args.c l m) _ _ _ _ _ _ c.if-s-ne0.false
-    c.frame_number-n.ensures
-    c.if-n-ne-DONE.true (ap (λ (r : Carried). kept_of r l m) c.refused-then-n-ne-DONE.ensures)
+pub returns-in_err-frame_ok : goal.returns-in_err-frame_ok
+returns-in_err-frame_ok c = λ l m.
+    let p : c.args.c.state.phase ≡ Start = search rules in
+    let e : c.from_residual.result ≡ Err (Refused c.in_err-frame_ok.field-0.0) = search rules in
+    frame_refused (kept_of c.args.c l m) _ _ _ _ _ _ (ap phase_number p) c.in_err-frame_ok.ensures (refused-some _) (ap (after_line c.args.c l m) e)
 
 pub returns : goal.returns
 returns c = λ l m.
-    frame-done (kept_of c.args.c l m) _ _ _ _ _ _ c.if-s-ne0.false
-    c.frame_number-n.ensures
-    c.if-n-ne-DONE.false (ap (λ (r : Carried). kept_of r l m) c.with_state.ensures)
+    let p : c.args.c.state.phase ≡ Start = search rules in
+    frame-done (kept_of c.args.c l m) _ _ _ _ _ _ (ap phase_number p) c.in_ok-frame_ok.ensures refl refl

@@ -1,21 +1,20 @@
--- The line comes out of turn, is refused by its number, or leaves the level values.
-use mathlib.Core.Path.{ap}
-use Rattle.list_steps.specs.Steps.{kept_of}
-use Rattle.list_steps.specs.declared.Carried.{Carried}
-use Rattle.list_steps.proofs.Lines.{level-form, level-refused, level-done}
+-- The line is refused by its number, or leaves the level values.
+use Rattle.std.proofs.Common.{rules, ◌≡◌, Err, ap, refl}
+use Rattle.list_steps.specs.State.{phase_number}
+use Rattle.list_steps.specs.Steps.{kept_of, after_line}
+use Rattle.list_steps.specs.declared.Fault.TheVariants.{Refused}
+use Rattle.list_steps.specs.declared.Phase.TheVariants.{Framed}
+use Rattle.list_steps.proofs.Faults.{refused-some}
+use Rattle.list_steps.proofs.Lines.{level-refused, level-done}
 use Rattle.list_steps.proofs.level.level_line.Goals as goal
 
-pub returns-then-s-ne1 : goal.returns-then-s-ne1
-returns-then-s-ne1 c = λ l m. level-form (kept_of c.args.c l m) _ _ _ _ c.if-s-ne1.true (ap (λ (r : Carried). kept_of r l m) c.refused.ensures)
-
-pub returns-then-n-ne-DONE : goal.returns-then-n-ne-DONE
-returns-then-n-ne-DONE c = λ l m.
-    level-refused (kept_of c.args.c l m) _ _ _ _ c.if-s-ne1.false
-    c.level_values-n.ensures.number
-    c.if-n-ne-DONE.true (ap (λ (r : Carried). kept_of r l m) c.refused-then-n-ne-DONE.ensures)
+pub returns-in_err-values : goal.returns-in_err-values
+returns-in_err-values c = λ l m.
+    let p : c.args.c.state.phase ≡ Framed = search rules in
+    let e : c.from_residual.result ≡ Err (Refused c.in_err-values.field-0.0) = search rules in
+    level-refused (kept_of c.args.c l m) _ _ _ _ (ap phase_number p) c.in_err-values.ensures.number (refused-some _) (ap (after_line c.args.c l m) e)
 
 pub returns : goal.returns
 returns c = λ l m.
-    let e = c.level_values-n.ensures in
-    level-done (kept_of c.args.c l m) _ _ _ _ c.if-s-ne1.false e.number c.if-n-ne-DONE.false e.stored
-    (ap (λ (r : Carried). kept_of r l m) c.with_state.ensures)
+    let p : c.args.c.state.phase ≡ Framed = search rules in
+    level-done (kept_of c.args.c l m) _ _ _ _ (ap phase_number p) c.in_ok-values.ensures.number refl c.in_ok-values.ensures.values refl

@@ -2,13 +2,10 @@
 use Rattle.mask_edges.specs.Folds.{bit_in, block_edge, stores, class_in}
 use lib.ListN.{length, get_or}
 use mathlib.Core.Path.{◌≡◌}
-use Prim.Native.Nat.{◌-◌, ◌≤◌}
+use Prim.Native.Nat.{◌-◌}
 use Rattle.mask_edges.proofs.cells.first_edges.Given as goal
 
 abbrev pub invariant-loop-v : goal.invariant-loop-v
 invariant-loop-v l =
-    (l.v ≤ l.n) × (length l.masks ≡ length l.initial.masks) × (length l.ctx ≡ length l.initial.ctx)
+    (length l.masks ≡ length l.initial.masks) × (length l.ctx ≡ length l.initial.ctx)
     × (l.masks ≡ block_edge (bit_in l.p) l.v (class_in l.txa l.p 0) (λ i. get_or l.initial.ctx i 0) l.initial.masks) × (l.ctx ≡ stores l.v (class_in l.txa l.p (l.p.across - 1)) l.initial.ctx)
-
-abbrev pub decreases-loop-v : goal.decreases-loop-v
-decreases-loop-v l = l.n - l.v

@@ -2,12 +2,8 @@
 use native.Mathlib.Omega.{arith}
 use mathlib.Core.Path.{◌≡◌}
 use Prim.Native.Nat.{◌+◌, ◌*◌, ◌/◌, ◌%◌}
-use lib.Pow.{pow_pos}
 use Rattle.bits.specs.Mark.{mark}
 use Rattle.mask_edges.proofs.edge.set_at.Goals as goal
-
-pub set_bits-requires : goal.set_bits-requires
-set_bits-requires c = rw c.bit16.ensures (pow_pos c.args.k)
 
 pub returns : goal.returns
 unfolding mark

@@ -1,13 +1,10 @@
 -- With no bits the word is as it was.
-use mathlib.Core.Path.{◌≡◌, sym, ap}
+use mathlib.Core.Path.{◌≡◌, sym}
 use native.Mathlib.Omega.{arith}
 use lib.Bits.{or_zero_r}
-use lib.ListN.{get_or, set}
+use lib.ListN.{get_or}
 use lib.Seq.{set-get_or}
 use Rattle.mask_edges.proofs.edge.set_half.Goals as goal
-
-pub returns-then-bits-gt0 : goal.returns-then-bits-gt0
-returns-then-bits-gt0 c = let a = c.args in ap (set a.masks.now a.at) c.set_bits.ensures
 
 pub returns-else-bits-gt0 : goal.returns-else-bits-gt0
 returns-else-bits-gt0 c =

@@ -1,8 +1,7 @@
 -- Lines of units by its invariant: the rows passed, each filled in its own part.
 use lib.ListN.{length}
-use borrow.Rule.Slice.PartMut.{mid_len}
 use native.Mathlib.Omega.{arith}
-use mathlib.Core.Path.{◌≡◌, refl, ap, ◌∙◌}
+use mathlib.Core.Path.{refl, ap, ◌∙◌}
 use Prim.Native.Nat.{◌+◌, ◌-◌, ◌*◌, ◌≤◌}
 use Rattle.record.proofs.Stores.{length-row, row_put, levels-none, levels-step}
 use Rattle.record.proofs.level_bytes.fill_levels.Goals as goal
@@ -16,43 +15,6 @@ room c = let p = c.requires.lines _ c.loop-j-test.true in omega (arith, c.loop-j
 pub loop-j-init : goal.loop-j-init
 loop-j-init c = (omega arith, refl, levels-none _ _ _ _ _ _)
 
-pub overflow_mul-from : goal.overflow_mul-from
-overflow_mul-from c = omega (arith, room c, c.requires.w_nonzero)
-
-pub overflow_mul-from-in-loop-j : goal.overflow_mul-from-in-loop-j
-overflow_mul-from-in-loop-j c = omega (arith, room c, c.requires.w_nonzero)
-
-pub overflow_add-from : goal.overflow_add-from
-overflow_add-from c = omega (arith, room c, c.requires.w_nonzero)
-
-pub overflow_sub-to : goal.overflow_sub-to
-overflow_sub-to c = omega (arith, c.requires.w_nonzero)
-
-pub overflow_mul-to : goal.overflow_mul-to
-overflow_mul-to c = omega (arith, room c, c.requires.w_nonzero)
-
-pub overflow_add-to : goal.overflow_add-to
-overflow_add-to c = omega (arith, room c, c.requires.w_nonzero)
-
-pub overflow_add-to-in-loop-j : goal.overflow_add-to-in-loop-j
-overflow_add-to-in-loop-j c = omega (arith, room c, c.requires.w_nonzero)
-
-pub slice_bounds-fill_row-count : goal.slice_bounds-fill_row-count
-slice_bounds-fill_row-count c = omega (arith, room c, c.requires.w_nonzero)
-
-pub slice_bounds-fill_row-start : goal.slice_bounds-fill_row-start
-slice_bounds-fill_row-start c = omega (arith, room c, c.requires.w_nonzero)
-
-pub slice_bounds-fill_row-end : goal.slice_bounds-fill_row-end
-slice_bounds-fill_row-end c = omega (arith, room c, c.requires.w_nonzero)
-
-pub fill_row-requires : goal.fill_row-requires
-fill_row-requires c =
-    let a = c.args in
-    let from = a.at + 4 * (c.loop-j.j * a.level_stride) in
-    let to = from + 4 * (a.w - 1) + 2 in
-    omega (arith, c.requires.w_nonzero, mid_len from to c.loop-j.levels (omega (arith, room (goal.at.fill_row-requires c).In-loop-j, c.requires.w_nonzero)))
-
 pub loop-j-preserved : goal.loop-j-preserved
 loop-j-preserved c =
     let a = c.args in
@@ -63,6 +25,3 @@ loop-j-preserved c =
     row_put from to a.w a.u a.v l.levels _ (omega arith) (omega (arith, room (goal.at.loop-j-preserved c).In-loop-j, c.requires.w_nonzero))
     (omega (arith, c.requires.w_nonzero)) c.fill_row.ensures in
     (omega arith, ap length e ∙ length-row from a.u a.v a.w l.levels ∙ l.invariant.1, levels-step _ _ _ _ _ _ _ _ _ l.invariant.2 e)
-
-pub returns : goal.returns
-returns c = let e : c.loop-j.j ≡ c.args.h = omega arith in rw (← e) c.loop-j.invariant.2

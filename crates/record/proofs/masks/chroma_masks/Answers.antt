@@ -6,22 +6,6 @@ use Rattle.record.proofs.Stores.{chroma-put}
 use Rattle.record.proofs.Rooms.{chroma-tx, chroma-seen, chroma-place, chroma-record-in}
 use Rattle.record.proofs.masks.chroma_masks.Goals as goal
 
-pub overflow_add-end : goal.overflow_add-end
-overflow_add-end c =
-    omega (arith, c.record_at-at.ensures, chroma-record-in c.args.b c.requires.0 c.requires.1, c.requires.2)
-
-pub chroma_unit-cby4-requires : goal.chroma_unit-cby4-requires
-chroma_unit-cby4-requires c = rw c.ss_ver-ss_ver.ensures (ss-ver-le c.args.b.layout)
-
-pub chroma_unit-cbx4-requires : goal.chroma_unit-cbx4-requires
-chroma_unit-cbx4-requires c =
-    let l = c.args.b.layout in
-    omega (arith, c.ss_hor-ss_hor.ensures, ss-hor-le l, c.ss_ver-ss_ver.ensures, ss-ver-le l)
-
-pub offset_bounds-masks-at : goal.offset_bounds-masks-at
-offset_bounds-masks-at c =
-    omega (arith, c.record_at-at.ensures, chroma-record-in c.args.b c.requires.0 c.requires.1, c.requires.2)
-
 pub slice_bounds-mask_edges_chroma-end : goal.slice_bounds-mask_edges_chroma-end
 slice_bounds-mask_edges_chroma-end c =
     omega (arith, c.record_at-at.ensures, chroma-record-in c.args.b c.requires.0 c.requires.1, c.requires.2)
@@ -41,11 +25,16 @@ mask_edges_chroma-requires c =
       rw c.ss_ver-ss_ver.ensures (ss-ver-le c.args.b.layout),
     )
 
-pub returns : goal.returns
-returns c =
-    let p = c.requires in record {
-      masks = chroma-put c.args.b _ _ _ c.args.above.now c.args.left.now c.args.masks.now _ c.record_at-at.ensures _ _ _ _ p.1 p.5 p.6
-          c.ss_hor-ss_hor.ensures c.ss_ver-ss_ver.ensures c.chroma_unit-cbx4.ensures c.chroma_unit-cby4.ensures c.mask_edges_chroma.ensures.masks;
-      above = rw p.1 (c.mask_edges_chroma.ensures.above ∙ rw p.5 refl);
-      left = rw p.1 (c.mask_edges_chroma.ensures.left ∙ rw p.6 refl);
-    }
+pub returns-clause-masks : goal.returns-clause-masks
+returns-clause-masks c =
+    let p = c.requires in
+    chroma-put c.args.b _ _ _ c.args.above.now c.args.left.now c.args.masks.now _ c.record_at-at.ensures _ _ _ _ p.1 p.5 p.6
+    c.ss_hor-ss_hor.ensures c.ss_ver-ss_ver.ensures c.chroma_unit-cbx4.ensures c.chroma_unit-cby4.ensures c.mask_edges_chroma.ensures.masks
+
+pub returns-clause-above : goal.returns-clause-above
+returns-clause-above c =
+    let p = c.requires in rw p.1 (c.mask_edges_chroma.ensures.above ∙ rw p.5 refl)
+
+pub returns-clause-left : goal.returns-clause-left
+returns-clause-left c =
+    let p = c.requires in rw p.1 (c.mask_edges_chroma.ensures.left ∙ rw p.6 refl)

@@ -1,17 +1,8 @@
 -- The block lies in its record, and what is made of the record is put back in its place.
 use native.Mathlib.Omega.{arith}
-use mathlib.Core.Path.{refl, ◌∙◌}
 use Rattle.record.proofs.Stores.{luma-put}
 use Rattle.record.proofs.Rooms.{luma-seen, luma-fits, luma-record, luma-covers}
 use Rattle.record.proofs.masks.luma_masks.Goals as goal
-
-pub overflow_add-end : goal.overflow_add-end
-overflow_add-end c =
-    omega (arith, c.record_at-at.ensures, luma-record c.args.b c.requires.0 c.requires.1, c.requires.2)
-
-pub offset_bounds-masks-at : goal.offset_bounds-masks-at
-offset_bounds-masks-at c =
-    omega (arith, c.record_at-at.ensures, luma-record c.args.b c.requires.0 c.requires.1, c.requires.2)
 
 pub slice_bounds-mask_edges_luma-end : goal.slice_bounds-mask_edges_luma-end
 slice_bounds-mask_edges_luma-end c =
@@ -31,12 +22,9 @@ mask_edges_luma-requires c =
       λ i. rw (p.5, p.6) (luma-covers c.args.b p.0 p.1 i),
     )
 
-pub returns : goal.returns
-returns c =
-    let p = c.requires in record {
-      masks = luma-put c.args.b _ _ _ c.args.above.now c.args.left.now c.args.masks.now _
-          c.record_at-at.ensures c.args.tx_masks.now p.1 p.5 p.6
-          c.mask_edges_luma.ensures.masks;
-      above = rw p.1 (c.mask_edges_luma.ensures.above ∙ rw (p.5, p.6) refl);
-      left = rw p.1 (c.mask_edges_luma.ensures.left ∙ rw (p.5, p.6) refl);
-    }
+pub returns-clause-masks : goal.returns-clause-masks
+returns-clause-masks c =
+    let p = c.requires in
+    luma-put c.args.b _ _ _ c.args.above.now c.args.left.now c.args.masks.now _
+    c.record_at-at.ensures c.args.tx_masks.now p.1 p.5 p.6
+    c.mask_edges_luma.ensures.masks

@@ -1,9 +1,0 @@
--- `chroma_rows` meets its contract: that of `rows` at chroma.
-use native.Mathlib.Omega.{arith}
-use Rattle.gap.proofs.Frames.{proper-chroma}
-use Rattle.gap.proofs.chroma_rows.Goals as goal
-
-pub rows-requires : goal.rows-requires
-rows-requires c =
-    let a = c.args in
-    (c.requires.0, proper-chroma a.ss_hor a.ss_ver a.w4.0 a.h4.0 (omega arith) (omega arith))

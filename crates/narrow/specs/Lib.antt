@@ -1,0 +1,2 @@
+-- what the narrow filter asks for
+pub mod Ranges

@@ -1,0 +1,12 @@
+-- Twelve stores are `put`: a place of the line is an index of the list.
+use mathlib.Core.List.{[], ◌∷◌}
+use mathlib.Core.Path.{sym, ◌∙◌}
+use Rattle.piece.proofs.Places.{put_is, once, plus_none}
+use Rattle.piece.proofs.store6.Goals as goal
+
+pub returns : goal.returns
+returns g c =
+    let a = c.args in
+    rw (c.put-12.ensures, c.put-11.ensures, c.put-10.ensures, c.put-9.ensures, c.put-8.ensures, c.put-7.ensures, c.put-6.ensures, c.put-5.ensures, c.put-4.ensures, c.put-3.ensures, c.put-2.ensures, c.put.ensures)
+    (sym (put_is a.q a.sample_step (a.p5 ∷ a.p4 ∷ a.p3 ∷ a.p2 ∷ a.p1 ∷ a.p0 ∷ a.q0 ∷ a.q1 ∷ a.q2 ∷ a.q3 ∷ a.q4 ∷ a.q5 ∷ []) 2
+    (g.P.Pixel.samples a.s.now) c.requires.0 ∙ simp (once, plus_none)))
