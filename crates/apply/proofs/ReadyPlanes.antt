@@ -12,7 +12,7 @@ use Rattle.checks.specs.Tests.{number}
 use Rattle.checks.proofs.TestsPassed.{sizes, proper}
 use Rattle.checks.proofs.Accepted.{accepted-depth, accepted-shape, accepted-lengths, accepted-row, accepted-level, accepted-sample}
 use Rattle.checks.proofs.Accepted.{accepted-wide, accepted-high, accepted-keeps, accepted-masks}
-use Rattle.apply.specs.Apply.{component_of, Limits, tables_of, Ready, Ready16}
+use Rattle.apply.specs.Apply.{component_of, Limits, tables_of, Ready, ReadyAt}
 
 plane-le : (c : Call) {plane : ℕ} → Filtered c plane → plane ≤ 2
 plane-le c luma = omega arith
@@ -52,5 +52,5 @@ module _ (c : Call) (l : Limits) (m : Lent) (e : number c m ≡ 0) where
     under =
         record { under = λ x y r from to. accepted-sample c m e f x y (rw (stored-records c.width.0 (ss-hor c plane) (proper c plane).ss-hor-le) r) from to }
 
-    pub ready16 : Ready16 c (tables_of c l m) plane (samples m plane)
-    ready16 = record { ready = ready; deep = deep; under = under }
+    pub ready-at : ReadyAt c (tables_of c l m) plane (samples m plane)
+    ready-at = record { ready = ready; deep = deep; under = under }

@@ -11,7 +11,8 @@
 --   call_of                    the call of these arguments
 --   FilterLent                 FilterAnswer of the lists that a call is lent, its number, and its samples after it
 --   swept, swept_if            what is done to a plane, and to one of chroma
---   Ready, Ready16             what that asks, and of samples of 16 bits
+--   Ready                      what that asks of the call, the lengths, the levels and the masks
+--   ReadyAt                    and of the depth and the samples, which that depth can hold
 use Rattle.std.specs.Prelude.{Bool, cond, List, ◌≡◌, ℕ, ◌^◌, ◌≤◌, eqb, length}
 use Rattle.std.proofs.Math.Option.{none}
 use Rattle.plane.specs.Line.{pass_of}
@@ -114,7 +115,7 @@ pub record Ready (c : Call) (t : Tables) (plane : ℕ) (s : List ℕ) : Type 0 w
   pub stored : Stored (component_of c plane) t (length s)
   pub fit : Fit (component_of c plane) t (pass_of c.rowwise) c.row
 
-pub record Ready16 (c : Call) (t : Tables) (plane : ℕ) (s : List ℕ) : Type 0 where
+pub record ReadyAt (c : Call) (t : Tables) (plane : ℕ) (s : List ℕ) : Type 0 where
   pub ready : Ready c t plane s
   pub deep : (8 ≤ t.depth) × (t.depth ≤ 12)
   pub under : Under (2 ^ t.depth) (component_of c plane) (pass_of c.rowwise) c.row s

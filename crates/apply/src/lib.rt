@@ -7,7 +7,7 @@ ghost use Rattle.refusals.specs.Numbers.{answered};
 ghost use Rattle.filter.specs.Types.{tables_of, InDepth};
 ghost use Rattle.checks.specs.Call.{chroma_on, Shaped};
 ghost use Rattle.apply.specs.Promises.{Promises};
-ghost use Rattle.apply.specs.Apply.{component_of, call_of, FilterLent, Ready16, swept, swept_if};
+ghost use Rattle.apply.specs.Apply.{component_of, call_of, FilterLent, ReadyAt, swept, swept_if};
 
 use checks::faults::{chroma_on, stride_of};
 use checks::{Call, check};
@@ -68,7 +68,7 @@ fn component(c: Call, plane: usize) -> Component
 }
 
 fn sweep<P: Pixel>(s: &mut [P], c: Call, t: Tables, plane: usize)
-    requires { InDepth t.depth P.top × Ready16 c (tables_of t) plane (P.samples s.old) }
+    requires { InDepth t.depth P.top × ReadyAt c (tables_of t) plane (P.samples s.old) }
     ensures { P.samples s.new ≡ swept c (tables_of t.entry) plane (P.samples s.old) }
 {
     let p = component(c, plane);
@@ -76,7 +76,7 @@ fn sweep<P: Pixel>(s: &mut [P], c: Call, t: Tables, plane: usize)
 }
 
 fn chroma<P: Pixel>(u: &mut [P], v: &mut [P], c: Call, t: Tables)
-    requires { InDepth t.depth P.top × (chroma_on c ≡ true → Ready16 c (tables_of t) 1 (P.samples u.old) × Ready16 c (tables_of t) 2 (P.samples v.old)) }
+    requires { InDepth t.depth P.top × (chroma_on c ≡ true → ReadyAt c (tables_of t) 1 (P.samples u.old) × ReadyAt c (tables_of t) 2 (P.samples v.old)) }
     ensures u { P.samples u.new ≡ swept_if c (tables_of t.entry) 1 (P.samples u.old) }
     ensures v { P.samples v.new ≡ swept_if c (tables_of t.entry) 2 (P.samples v.old) }
 {

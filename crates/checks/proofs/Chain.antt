@@ -1,22 +1,18 @@
 -- The number of a call from its parts: the first of 2 to 8, then 9, then the first of 10 to 12; by cases on the tests.
 use mathlib.Core.Bool.{Bool, true, false, cond}
-use mathlib.Core.List.{List}
-use mathlib.Core.Logic.{⊎_elim}
 use mathlib.Core.Path.{◌≡◌, refl, ap}
-use Prim.Native.Nat.{ℕ, ◌<◌}
+use Prim.Native.Nat.{ℕ}
 use native.Mathlib.Omega.{arith}
 use lib.Dec.{eqb}
 use lib.ListN.{length}
 use borrow.Author.Tests.{ne_eqb}
 use Rattle.std.specs.Prelude.{Result, Ok, Err, IsErrAnd}
-use Rattle.loops.proofs.Numbers.{passed}
 use Rattle.refusals.specs.Numbers.{number_of, answered}
 use Rattle.refusals.specs.declared.Refusal.{Refusal}
 use Rattle.refusals.specs.declared.Refusal.TheVariants.{Sharpness, Level, Depth, Shape, Block, Context, Length, LevelByte, Plane, Outside, Gap, MaskBit, Bits, Unwritable}
 use Rattle.checks.specs.declared.Call.{Call}
-use Rattle.checks.specs.Call.{Lent, Shaped, Roomy}
+use Rattle.checks.specs.Call.{Lent}
 use Rattle.checks.specs.Tests.{level_bad, depth_bad, shape_bad, length_bad, levels_bad, planes_bad, given, marked, number}
-use Rattle.checks.proofs.TestsPassed.{depths, shaped, roomy}
 
 -- ---- a refusal has a number
 
@@ -51,24 +47,6 @@ behind false false true e f x = refl
 behind false false false true f x = refl
 behind false false false false true x = refl
 behind false false false false false x = refl
-
-module _ (c : Call) (ls : List ℕ) (masks : ℕ) (z : given c ls masks ≡ 0) where
-  -- what the first of 2 to 8 leaves
-  none_before : (depth_bad c ≡ false) × (shape_bad c ≡ false) × (length_bad c (length ls) masks ≡ false)
-  none_before =
-      let a = passed (level_bad c) 2 _ (omega arith) z in
-      let b = passed (depth_bad c) 3 _ (omega arith) a.1 in
-      let d = passed (shape_bad c) 4 _ (omega arith) b.1 in
-      (b.0, d.0, (passed (length_bad c (length ls) masks) 7 _ (omega arith) d.1).0)
-
-  pub given-shaped : Shaped c
-  given-shaped = shaped c none_before.1
-
-  pub given-roomy : Roomy c (length ls) masks
-  given-roomy = roomy c (length ls) masks none_before.2
-
-  pub given-depth : c.depth < 16
-  given-depth = ⊎_elim (⊎_elim (λ e. omega arith) (λ e. omega arith)) (λ e. omega arith) (depths c none_before.0)
 
 module _ (c : Call) (m : Lent) where
   in_parts : number c m ≡ cond (eqb (given c m.levels (length m.masks)) 0) (cond (planes_bad c m) 9 (marked c m.masks)) (given c m.levels (length m.masks))

@@ -32,6 +32,9 @@ module _ (c : Call) where
   pub depths : depth_bad c ≡ false → ((c.depth ≡ 8) ⊎ (c.depth ≡ 10)) ⊎ (c.depth ≡ 12)
   depths e = (reflects-or (reflects-or (reflects-eqb c.depth 8) (reflects-eqb c.depth 10)) (reflects-eqb c.depth 12)).yes (not-false _ e)
 
+  pub deep : depth_bad c ≡ false → c.depth < 16
+  deep e = ⊎_elim (⊎_elim (λ h. omega arith) (λ h. omega arith)) (λ h. omega arith) (depths e)
+
   pub shaped : shape_bad c ≡ false → Shaped c
   shaped e =
       let l = not (layout_ok c.layout) in

@@ -1,15 +1,15 @@
-// The numbers of the calls that filter.
+// The refusals of the calls that filter.
 #![tactic(auto)]
 
 pub mod faults;
 
-ghost use Rattle.std.specs.Prelude.{◌≡◌, ℕ, length};
+ghost use Rattle.std.specs.Prelude.{◌≡◌, length, IfOk};
 ghost use Rattle.refusals.specs.Numbers.{answered};
-ghost use Rattle.checks.specs.Call.{lent, Shaped, Roomy};
+ghost use Rattle.checks.specs.Call.{lent};
 ghost use Rattle.checks.specs.Promises.{Numbers};
 ghost use Rattle.checks.specs.Tests.{given, marked, number};
 
-use faults::{depth_bad, found, inside, length_bad, level_bad, levels_bad, planes_bad, shape_bad};
+use faults::{RoomyCall, ShapedCall, depth_bad, level_bad, shape_bad};
 use plane::Pixel;
 use refusals::Refusal;
 use units::Sample;
@@ -33,8 +33,9 @@ pub struct Call {
 }
 
 // Numbers 2 to 8.
-fn given(c: Call, levels: &[u8], masks: usize) -> Result<(), Refusal>
-    ensures { answered result ≡ given c levels.now masks }
+fn given<'a>(c: Call, levels: &'a [u8], masks: &'a [u16]) -> Result<RoomyCall<'a>, Refusal>
+    ensures number { answered result ≡ given c levels.now (length masks.now) }
+    ensures lent { IfOk result (λ r. (r.shaped.call ≡ c) × (r.masks.now ≡ masks.now)) }
 {
     if level_bad(c) {
         return Err(Refusal::Level);
@@ -45,24 +46,29 @@ fn given(c: Call, levels: &[u8], masks: usize) -> Result<(), Refusal>
     if shape_bad(c) {
         return Err(Refusal::Shape);
     }
-    if length_bad(c, levels.len(), masks) {
+    let shaped = ShapedCall { call: c };
+    if shaped.length_bad(levels.len(), masks.len()) {
         return Err(Refusal::Length);
     }
-    if levels_bad(c, levels) {
+    let roomy = RoomyCall {
+        shaped,
+        levels,
+        masks,
+    };
+    if roomy.levels_bad() {
         return Err(Refusal::LevelByte);
     }
-    Ok(())
+    Ok(roomy)
 }
 
 // Numbers 10 to 12.
-fn marked(c: Call, masks: &[u16]) -> Result<(), Refusal>
-    requires { Shaped c × ((l : ℕ) × Roomy c l (length masks.now)) }
-    ensures { answered result ≡ marked c masks.now }
+fn marked(roomy: RoomyCall) -> Result<(), Refusal>
+    ensures { answered result ≡ marked roomy.entry.shaped.call roomy.entry.masks.now }
 {
-    if !inside(c) {
+    let Some(inside) = roomy.inside() else {
         return Err(Refusal::Outside);
-    }
-    let f = found(c, masks);
+    };
+    let f = inside.found();
     if f.gap {
         return Err(Refusal::Gap);
     }
@@ -82,11 +88,11 @@ pub fn check<P: Pixel>(
 ) -> Result<(), Refusal>
     ensures { answered result ≡ number c (lent (P.samples luma.now) (P.samples u.now) (P.samples v.now) levels.now masks.now) }
 {
-    given(c, levels, masks.len())?;
-    if planes_bad(c, luma, u, v) {
+    let roomy = given(c, levels, masks)?;
+    if roomy.shaped.planes_bad(luma, u, v) {
         return Err(Refusal::Plane);
     }
-    marked(c, masks)
+    marked(roomy)
 }
 
 // What the numbers mean.

@@ -4,7 +4,7 @@ use mathlib.Core.Path.{◌≡◌, sym, ap, ap₂, subst, ◌∙◌}
 use Prim.Native.Nat.{ℕ, ◌+◌, ◌*◌, ◌/◌, ◌<◌, ◌≤◌}
 use native.Mathlib.Omega.{arith}
 use borrow.Author.Tests.{eq-eqb, ne_eqb, lt-ltb, le-ltb, le-leb, lt-leb}
-use lib.ListN.{length, take, drop, replicate, length-replicate}
+use lib.ListN.{length, take, drop}
 use lib.Seq.{take_at}
 use Rattle.loops.proofs.Products.{prod-le}
 use Rattle.units.specs.Units.{units_of}
@@ -83,17 +83,15 @@ list-fits s w h levels masks out g e f =
       masks-long = omega (arith, prod-le ((w + 31) / 32) ((h + 31) / 32) 2 2 (omega arith) (omega arith));
     }
 
-pub edges-put : (s : State) (w h a b c : ℕ) (levels masks before after : List ℕ) (r : ℕ) → Listable s a b c → w ≡ units_of s.width → h ≡ units_of s.height → Bytes levels
-    → Put before 0 (list_text (held_of s.layout w h levels masks)) after r → (r ≤ room) × Put before 0 (list_text (held_in s levels masks)) after r
-edges-put s w h a b c levels masks before after r g e f m p = (
-  omega (arith, p.next, lists.room (held_of s.layout w h levels masks) (omega arith) (omega arith) m),
-  subst (λ (t : List ℕ). Put before 0 t after r) (ap₂ (λ (x y : ℕ). list_text (held_of s.layout x y levels masks)) e f) p,
+pub edges-put : (s : State) (w h a b c : ℕ) (levels masks before after : List ℕ) (r : ℕ) {at : ℕ} → at ≡ 0 → Listable s a b c → w ≡ units_of s.width → h ≡ units_of s.height → Bytes levels
+    → Put before at (list_text (held_of s.layout w h levels masks)) after r → (r ≤ room) × Put before 0 (list_text (held_in s levels masks)) after r
+edges-put s w h a b c levels masks before after r {at} o g e f m p = (
+  omega (arith, o, p.next, lists.room (held_of s.layout w h levels masks) (omega arith) (omega arith) m),
+  subst (λ (n : ℕ). Put before n (list_text (held_in s levels masks)) after r) o
+      (subst (λ (t : List ℕ). Put before at t after r) (ap₂ (λ (x y : ℕ). list_text (held_of s.layout x y levels masks)) e f) p),
 )
 
 -- ---- the answer
-
-pub in-room : {s : State} {levels masks t : List ℕ} {m n : ℕ} → Texted s levels masks (replicate m 0) t n → m ≡ room → n ≤ length t
-in-room {s} {levels} {masks} {t} {m} {n} h e = omega (arith, h.short, h.long, length-replicate {A = ℕ} m 0)
 
 stored-text : (t x u : List ℕ) (n : ℕ) → Put t 0 x u n → take n u ≡ x
 stored-text t x u n p =

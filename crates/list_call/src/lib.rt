@@ -10,9 +10,9 @@ ghost use Rattle.list_call.specs.Listing.{lines_of, start, after, held_in, room,
 ghost use Rattle.list_call.specs.Promises.{Promises};
 
 use list_fields::end_of;
-use list_put::put_list;
+use list_put::{Frame, put_list};
 use list_steps::{Carried, Fault, Phase, State, step};
-use list_text::{put_bytes, put_form, put_refused};
+use list_text::Text;
 use units::{Sample, luma_units};
 
 const END: u8 = b'\n';
@@ -86,34 +86,35 @@ pub fn run(c: Carried, script: &[u8], levels: &mut [u8; 16384], masks: &mut [u16
     k
 }
 
-fn put_edges(s: State, levels: &[u8], masks: &[u16], out: &mut [u8]) -> usize
-    requires { Listable (state_is s) (length levels.now) (length masks.now) (length out.old) }
-    ensures { (result ≤ room) × Put out.old 0 (list_text (held_in (state_is s) levels.now masks.now)) out.new result }
+fn put_edges(s: State, levels: &[u8], masks: &[u16], text: &mut Text)
+    requires { Listable (state_is s) (length levels.now) (length masks.now) (length text.old.bytes) × (text.old.len ≡ 0) }
+    ensures { (text.new.len ≤ room) × Put text.old.bytes 0 (list_text (held_in (state_is s) levels.now masks.now)) text.new.bytes text.new.len }
 {
     let w4 = luma_units(Sample(s.width as usize));
     let h4 = luma_units(Sample(s.height as usize));
-    put_list(out, s.layout as usize, w4, h4, levels, masks)
+    let frame = Frame {
+        layout: s.layout as usize,
+        w4,
+        h4,
+    };
+    put_list(text, frame, levels, masks);
 }
 
 // Of a state that no script leaves it may store nothing.
-pub fn put_text(
-    s: State,
-    levels: &[u8; 16384],
-    masks: &[u16; 2560],
-    out: &mut [u8; 393255],
-) -> usize
-    ensures { Texted (state_is s) levels.now masks.now out.old out.new result }
+pub fn put_text(s: State, levels: &[u8; 16384], masks: &[u16; 2560], text: &mut Text)
+    ensures { Texted (state_is s) levels.now masks.now text.old.bytes text.new.bytes text.new.len }
 {
+    text.len = 0;
     match (s.fault, s.phase) {
-        (Some(Fault::Form), _) => put_form(out, 0, s.line),
-        (Some(Fault::Refused(r)), _) => put_refused(out, 0, s.line, u64::from(u32::from(r))),
-        (None, Phase::Start) => put_form(out, 0, 1),
-        (None, Phase::Framed) => put_form(out, 0, 2),
+        (Some(Fault::Form), _) => text.put_form(s.line),
+        (Some(Fault::Refused(r)), _) => text.put_refused(s.line, u64::from(u32::from(r))),
+        (None, Phase::Start) => text.put_form(1),
+        (None, Phase::Framed) => text.put_form(2),
         (None, Phase::Leveled) => {
             if 256 < s.width || 256 < s.height {
-                return 0;
+                return;
             }
-            put_edges(s, levels, masks, out)
+            put_edges(s, levels, masks, text);
         }
     }
 }
@@ -124,10 +125,14 @@ pub fn list(script: &[u8], out: &mut [u8]) -> usize
     let mut levels = [0u8; 16384];
     let mut masks = [0u16; 2560];
     let k = run(start(), script, &mut levels, &mut masks);
-    let mut text = [0u8; 393255];
-    let n = put_text(k.state, &levels, &masks, &mut text);
+    let mut text = Text {
+        bytes: [0u8; 393255],
+        len: 0,
+    };
+    put_text(k.state, &levels, &masks, &mut text);
+    let n = text.len;
     if n <= out.len() {
-        put_bytes(out, 0, &text[..n]);
+        out[..n].copy_from_slice(&text.bytes[..n]);
     }
     n
 }

@@ -18,15 +18,15 @@ use Rattle.units.specs.Memory.{level_at}
 use Rattle.units.specs.Units.{chroma_units}
 use Rattle.units.proofs.Places.{ss-hor-le, ss-ver-le, level_in_lem, pass-lt}
 use Rattle.edges.specs.Edges.{Grid, Proper, grid_of, luma_grid, chroma_grid, units_of, edge_bit, in_frame, edge}
-use Rattle.list_text.specs.Text.{edge_text, Put}
+use Rattle.list_text.specs.declared.Text.{Text}
+use Rattle.list_text.specs.Text.{edge_text}
 use Rattle.edges.specs.Bit.{Near}
 use Rattle.edges.specs.Class.{no_class, class_no, class_in}
 use Rattle.edges.proofs.EdgeBits.{unit-near, class-bit-in}
 use Rattle.edges.proofs.Classes as classes
 use Rattle.list_edges.specs.Listed.{Held, Edge, grid_in, area, level_in, edge_in, found, edges_at, line_text, lines_text}
 use Rattle.list_put.specs.declared.Part.{Part}
-use Rattle.list_put.specs.declared.Written.{Written}
-use Rattle.list_put.specs.Written.{held_in, grid_at, Inside, Room, Wrote}
+use Rattle.list_put.specs.Written.{held_in, grid_at, Has, Puts, Inside, Room, Wrote}
 use Rattle.list_put.proofs.Lengths.{Short, wide-le, high_le}
 use Rattle.list_put.proofs.Writes.{wrote_none, wrote_one}
 
@@ -34,26 +34,26 @@ use Rattle.list_put.proofs.Writes.{wrote_none, wrote_one}
 
 module _ (p : Part) where
   abbrev area_of : Bool → Grid
-  area_of b = cond b (luma_grid p.w4.0 p.h4.0) (chroma_grid (ss_hor p.layout) (ss_ver p.layout) p.w4.0 p.h4.0)
+  area_of b = cond b (luma_grid p.frame.w4.0 p.frame.h4.0) (chroma_grid (ss_hor p.frame.layout) (ss_ver p.frame.layout) p.frame.w4.0 p.frame.h4.0)
 
-  pub hor-is : {r : ℕ} → r ≡ cond (eqb p.plane 0) 0 (ss_hor p.layout) → r ≡ (grid_at p).ss-hor
+  pub hor-is : {r : ℕ} → r ≡ cond (eqb p.plane 0) 0 (ss_hor p.frame.layout) → r ≡ (grid_at p).ss-hor
   hor-is e = e ∙ go (eqb p.plane 0)
     where
-      go : (b : Bool) → cond b 0 (ss_hor p.layout) ≡ (area_of b).ss-hor
+      go : (b : Bool) → cond b 0 (ss_hor p.frame.layout) ≡ (area_of b).ss-hor
       go true = refl
       go false = refl
 
-  pub ver-is : {r : ℕ} → r ≡ cond (eqb p.plane 0) 0 (ss_ver p.layout) → r ≡ (grid_at p).ss-ver
+  pub ver-is : {r : ℕ} → r ≡ cond (eqb p.plane 0) 0 (ss_ver p.frame.layout) → r ≡ (grid_at p).ss-ver
   ver-is e = e ∙ go (eqb p.plane 0)
     where
-      go : (b : Bool) → cond b 0 (ss_ver p.layout) ≡ (area_of b).ss-ver
+      go : (b : Bool) → cond b 0 (ss_ver p.frame.layout) ≡ (area_of b).ss-ver
       go true = refl
       go false = refl
 
-  grid-is : grid_of (eqb p.plane 0) (grid_at p).ss-hor (grid_at p).ss-ver p.w4.0 p.h4.0 ≡ grid_at p
+  grid-is : grid_of (eqb p.plane 0) (grid_at p).ss-hor (grid_at p).ss-ver p.frame.w4.0 p.frame.h4.0 ≡ grid_at p
   grid-is = go (eqb p.plane 0)
     where
-      go : (b : Bool) → grid_of b (area_of b).ss-hor (area_of b).ss-ver p.w4.0 p.h4.0 ≡ area_of b
+      go : (b : Bool) → grid_of b (area_of b).ss-hor (area_of b).ss-ver p.frame.w4.0 p.frame.h4.0 ≡ area_of b
       go true = refl
       go false = refl
 
@@ -64,16 +64,16 @@ module _ (p : Part) where
       go true = record { ss-hor-le = omega arith; ss-ver-le = omega arith; luma-x = λ e. refl; luma-y = λ e. refl }
       go false =
           record {
-            ss-hor-le = ss-hor-le p.layout;
-            ss-ver-le = ss-ver-le p.layout;
+            ss-hor-le = ss-hor-le p.frame.layout;
+            ss-ver-le = ss-ver-le p.frame.layout;
             luma-x = λ e. let z : ◌≡◌ {A = ℕ} 0 1 = cc in absurd (omega arith);
             luma-y = λ e. let z : ◌≡◌ {A = ℕ} 0 1 = cc in absurd (omega arith);
           }
 
-  pub wide_is : (r h : ℕ) → h ≡ (grid_at p).ss-hor → r ≡ chroma_units h p.w4.0 → r ≡ units_of (grid_at p) columns
+  pub wide_is : (r h : ℕ) → h ≡ (grid_at p).ss-hor → r ≡ chroma_units h p.frame.w4.0 → r ≡ units_of (grid_at p) columns
   wide_is r h e q = q ∙ ap₂ chroma_units e (ap (λ (G : Grid). G.w4) grid-is)
 
-  pub high_is : (r v : ℕ) → v ≡ (grid_at p).ss-ver → r ≡ chroma_units v p.h4.0 → r ≡ units_of (grid_at p) rows
+  pub high_is : (r v : ℕ) → v ≡ (grid_at p).ss-ver → r ≡ chroma_units v p.frame.h4.0 → r ≡ units_of (grid_at p) rows
   high_is r v e q = q ∙ ap₂ chroma_units e (ap (λ (G : Grid). G.h4) grid-is)
 
 -- ---- its bit
@@ -90,13 +90,13 @@ module _ (p : Part) (x y : ℕ) (i : Inside p x y) where
   is-in =
       ap₂ ◌&&◌ (lt-ltb (unit d x y).0 (units_of (grid_at p) d) (in_frame_lem d).0) (lt-ltb (unit d x y).1 (units_of (grid_at p) (other d)) (in_frame_lem d).1)
 
-  w4-is : (grid_at p).w4 ≡ p.w4.0
+  w4-is : (grid_at p).w4 ≡ p.frame.w4.0
   w4-is = sym (ap (λ (G : Grid). G.w4) (grid-is p))
 
-  h4-is : (grid_at p).h4 ≡ p.h4.0
+  h4-is : (grid_at p).h4 ≡ p.frame.h4.0
   h4-is = sym (ap (λ (G : Grid). G.h4) (grid-is p))
 
-  pub near : (h v a l : ℕ) → h ≡ (grid_at p).ss-hor → v ≡ (grid_at p).ss-ver → a ≡ (unit d x y).0 → l ≡ (unit d x y).1 → Near h v p.w4.0 a l
+  pub near : (h v a l : ℕ) → h ≡ (grid_at p).ss-hor → v ≡ (grid_at p).ss-ver → a ≡ (unit d x y).0 → l ≡ (unit d x y).1 → Near h v p.frame.w4.0 a l
   near h v a l e f g k =
       let n =
       unit-near (grid_at p) (proper p) (omega (arith, w4-is, i.width)) (omega (arith, h4-is, i.height)) d (unit d x y) (in_frame_lem d).0 (in_frame_lem d).1
@@ -110,20 +110,20 @@ module _ (p : Part) (x y : ℕ) (i : Inside p x y) where
       }
 
   pub bit_is : (h v a l r : ℕ) → h ≡ (grid_at p).ss-hor → v ≡ (grid_at p).ss-ver → a ≡ (unit d x y).0 → l ≡ (unit d x y).1
-      → r ≡ edge_bit (grid_of (eqb p.plane 0) h v p.w4.0 p.h4.0) d (a, l) 0 → r ≡ edge_bit (grid_at p) d (unit d x y) 0
+      → r ≡ edge_bit (grid_of (eqb p.plane 0) h v p.frame.w4.0 p.frame.h4.0) d (a, l) 0 → r ≡ edge_bit (grid_at p) d (unit d x y) 0
   bit_is h v a l r e f g k q =
       q
-      ∙ ap₂ (λ (m n : ℕ). edge_bit (grid_of (eqb p.plane 0) m n p.w4.0 p.h4.0) d (a, l) 0) e f
-      ∙ ap₂ (λ (m n : ℕ). edge_bit (grid_of (eqb p.plane 0) (grid_at p).ss-hor (grid_at p).ss-ver p.w4.0 p.h4.0) d (m, n) 0) g k
+      ∙ ap₂ (λ (m n : ℕ). edge_bit (grid_of (eqb p.plane 0) m n p.frame.w4.0 p.frame.h4.0) d (a, l) 0) e f
+      ∙ ap₂ (λ (m n : ℕ). edge_bit (grid_of (eqb p.plane 0) (grid_at p).ss-hor (grid_at p).ss-ver p.frame.w4.0 p.frame.h4.0) d (m, n) 0) g k
       ∙ ap (λ (G : Grid). edge_bit G d (unit d x y) 0) (grid-is p)
 
-  bit-lt : (c : ℕ) → c < cond (grid_at p).luma 4 2 → edge_bit (grid_at p) d (unit d x y) 0 + 32 * c < 10240 * frame_records p.w4.0 p.h4.0
+  bit-lt : (c : ℕ) → c < cond (grid_at p).luma 4 2 → edge_bit (grid_at p) d (unit d x y) 0 + 32 * c < 10240 * frame_records p.frame.w4.0 p.frame.h4.0
   bit-lt c h =
-      let z : frame_records (grid_at p).w4 (grid_at p).h4 ≡ frame_records p.w4.0 p.h4.0 = ap₂ frame_records w4-is h4-is in
+      let z : frame_records (grid_at p).w4 (grid_at p).h4 ≡ frame_records p.frame.w4.0 p.frame.h4.0 = ap₂ frame_records w4-is h4-is in
       omega (arith, class-bit-in (grid_at p) (proper p) d (unit d x y) c (in_frame_lem d).0 (in_frame_lem d).1 h)
 
-  records-le : frame_records p.w4.0 p.h4.0 ≤ 4
-  records-le = prod-le (records p.w4.0) (records p.h4.0) 2 2 (omega (arith, i.width)) (omega (arith, i.height))
+  records-le : frame_records p.frame.w4.0 p.frame.h4.0 ≤ 4
+  records-le = prod-le (records p.frame.w4.0) (records p.frame.h4.0) 2 2 (omega (arith, i.width)) (omega (arith, i.height))
 
   luma : p.plane ≡ 0 → (grid_at p).luma ≡ true
   luma e = sym (ap (λ (G : Grid). G.luma) (grid-is p)) ∙ eq-eqb p.plane 0 e
@@ -132,13 +132,13 @@ module _ (p : Part) (x y : ℕ) (i : Inside p x y) where
   chroma n = sym (ap (λ (G : Grid). G.luma) (grid-is p)) ∙ ne_eqb p.plane 0 n
 
   module _ (e : ℕ) (q : e ≡ edge_bit (grid_at p) d (unit d x y) 0) where
-    room : (c len : ℕ) → c < cond (grid_at p).luma 4 2 → 640 * frame_records p.w4.0 p.h4.0 ≤ len → (e < 1099511627776) × ((e + 32 * c) / 16 < len)
+    room : (c len : ℕ) → c < cond (grid_at p).luma 4 2 → 640 * frame_records p.frame.w4.0 p.frame.h4.0 ≤ len → (e < 1099511627776) × ((e + 32 * c) / 16 < len)
     room c len h m = (omega (arith, bit-lt c h, records-le), omega (arith, bit-lt c h))
 
-    pub luma-room : (len : ℕ) → p.plane ≡ 0 → 640 * frame_records p.w4.0 p.h4.0 ≤ len → (e < 1099511627776) × ((e + 64) / 16 < len)
+    pub luma-room : (len : ℕ) → p.plane ≡ 0 → 640 * frame_records p.frame.w4.0 p.frame.h4.0 ≤ len → (e < 1099511627776) × ((e + 64) / 16 < len)
     luma-room len z m = room 2 len (subst (λ (b : Bool). 2 < cond b 4 2) (sym (luma z)) (omega arith)) m
 
-    pub chroma-room : (len : ℕ) → ¬ (p.plane ≡ 0) → 640 * frame_records p.w4.0 p.h4.0 ≤ len → (e < 1099511627776) × ((e + 32) / 16 < len)
+    pub chroma-room : (len : ℕ) → ¬ (p.plane ≡ 0) → 640 * frame_records p.frame.w4.0 p.frame.h4.0 ≤ len → (e < 1099511627776) × ((e + 32) / 16 < len)
     chroma-room len n m = room 1 len (subst (λ (b : Bool). 1 < cond b 4 2) (sym (chroma n)) (omega arith)) m
 
     -- ---- its class
@@ -164,34 +164,34 @@ module _ (p : Part) (x y : ℕ) (i : Inside p x y) where
       go true = omega (arith, pass-lt d)
       go false = omega (arith, i.plane-in)
 
-  level-lt : (k len : ℕ) → k < 4 → 4 * p.w4.0 * p.h4.0 ≤ len → level_at p.w4.0 x y k < len
+  level-lt : (k len : ℕ) → k < 4 → 4 * p.frame.w4.0 * p.frame.h4.0 ≤ len → level_at p.frame.w4.0 x y k < len
   level-lt k len h m =
-      level_in_lem len p.w4.0 p.w4.0 p.h4.0 x y k (omega arith) m (omega (arith, i.x-in, wide-le (held_in p [] []) p.plane))
+      level_in_lem len p.frame.w4.0 p.frame.w4.0 p.frame.h4.0 x y k (omega arith) m (omega (arith, i.x-in, wide-le (held_in p [] []) p.plane))
       (omega (arith, i.y-in, high_le (held_in p [] []) p.plane)) h
 
-  pub level-small : (k : ℕ) → k < 4 → level_at p.w4.0 x y k < 2 ^ 64
+  pub level-small : (k : ℕ) → k < 4 → level_at p.frame.w4.0 x y k < 2 ^ 64
   level-small k h =
-      omega (arith, level-lt k (4 * p.w4.0 * p.h4.0) h (omega arith), prod-le (4 * p.w4.0) p.h4.0 256 64 (omega (arith, i.width)) i.height)
+      omega (arith, level-lt k (4 * p.frame.w4.0 * p.frame.h4.0) h (omega arith), prod-le (4 * p.frame.w4.0) p.frame.h4.0 256 64 (omega (arith, i.width)) i.height)
 
-  pub level-there : (k len : ℕ) → k ≡ level_at p.w4.0 x y (area p.plane d) → 4 * p.w4.0 * p.h4.0 ≤ len → k < len
+  pub level-there : (k len : ℕ) → k ≡ level_at p.frame.w4.0 x y (area p.plane d) → 4 * p.frame.w4.0 * p.frame.h4.0 ≤ len → k < len
   level-there k len e m = omega (arith, level-lt (area p.plane d) len area-lt m)
 
 pub pass-no : (b : Bool) → bool_byte b ≡ pass_no (pass_of b)
 pass-no true = refl
 pass-no false = refl
 
-pub luma-area : (p : Part) (r x y : ℕ) → p.plane ≡ 0 → r ≡ level_at p.w4.0 x y (bool_byte p.rowwise)
-    → r ≡ level_at p.w4.0 x y (area p.plane (pass_of p.rowwise))
+pub luma-area : (p : Part) (r x y : ℕ) → p.plane ≡ 0 → r ≡ level_at p.frame.w4.0 x y (bool_byte p.rowwise)
+    → r ≡ level_at p.frame.w4.0 x y (area p.plane (pass_of p.rowwise))
 luma-area p r x y e q =
     q
-    ∙ ap (λ (k : ℕ). level_at p.w4.0 x y k)
+    ∙ ap (λ (k : ℕ). level_at p.frame.w4.0 x y k)
     (pass-no p.rowwise ∙ ap (λ (b : Bool). cond b (pass_no (pass_of p.rowwise)) (p.plane + 1)) (sym (eq-eqb p.plane 0 e)))
 
-pub chroma-area : (p : Part) (r x y : ℕ) → ¬ (p.plane ≡ 0) → r ≡ level_at p.w4.0 x y (p.plane + 1)
-    → r ≡ level_at p.w4.0 x y (area p.plane (pass_of p.rowwise))
+pub chroma-area : (p : Part) (r x y : ℕ) → ¬ (p.plane ≡ 0) → r ≡ level_at p.frame.w4.0 x y (p.plane + 1)
+    → r ≡ level_at p.frame.w4.0 x y (area p.plane (pass_of p.rowwise))
 chroma-area p r x y n q =
     q
-    ∙ ap (λ (k : ℕ). level_at p.w4.0 x y k) (ap (λ (b : Bool). cond b (pass_no (pass_of p.rowwise)) (p.plane + 1)) (sym (ne_eqb p.plane 0 n)))
+    ∙ ap (λ (k : ℕ). level_at p.frame.w4.0 x y k) (ap (λ (b : Bool). cond b (pass_no (pass_of p.rowwise)) (p.plane + 1)) (sym (ne_eqb p.plane 0 n)))
 
 -- ---- what is written for it
 
@@ -221,15 +221,15 @@ module _ (s : Held) (p : ℕ) (d : Pass) (x y : ℕ) where
   unfolding level_in
   level-is k l e f = f ∙ ap (λ (n : ℕ). get_or s.levels n 0) e
 
-  module _ (a : List ℕ) (w : Written) (u : ℕ) (h : u ≡ (unit d x y).0) where
-    pub wrote-first : u ≡ 0 → Wrote a w (edges_at s p d x y) a w
-    wrote-first e = subst (λ (l : List Edge). Wrote a w l a w) (first-none (sym h ∙ e)) (wrote_none a w)
+  module _ (b : Text) (i : ℕ) (u : ℕ) (h : u ≡ (unit d x y).0) where
+    pub wrote-first : u ≡ 0 → Wrote b i (edges_at s p d x y) b i
+    wrote-first e = subst (λ (l : List Edge). Wrote b i l b i) (first-none (sym h ∙ e)) (wrote_none b i)
 
     module _ (c : ℕ) (q : c ≡ class_no at) (n : ¬ (u ≡ 0)) where
-      pub wrote-no-edge : c ≡ no_class → Wrote a w (edges_at s p d x y) a w
+      pub wrote-no-edge : c ≡ no_class → Wrote b i (edges_at s p d x y) b i
       wrote-no-edge z =
-          subst (λ (l : List Edge). Wrote a w l a w)
-          (inner-is (λ e. n (h ∙ e)) none (no-class at c q (classes.class-lt (grid_in s p) s.masks d (unit d x y)) z)) (wrote_none a w)
+          subst (λ (l : List Edge). Wrote b i l b i)
+          (inner-is (λ e. n (h ∙ e)) none (no-class at c q (classes.class-lt (grid_in s p) s.masks d (unit d x y)) z)) (wrote_none b i)
 
       module _ (k t l : ℕ) (m : ¬ (c ≡ no_class)) (f : t ≡ pass_no d) (g : k ≡ level_at s.level-stride x y (area p d)) (j : l ≡ get_or s.levels k 0) where
         edge-is : edge_in s p d x y c ∷ [] ≡ edges_at s p d x y
@@ -238,8 +238,8 @@ module _ (s : Held) (p : ℕ) (d : Pass) (x y : ℕ) where
         text-is : edge_text p t x y c l ≡ line_text (edge_in s p d x y c)
         text-is = ap₂ (λ (i j : ℕ). edge_text p i x y c j) f (level-is k l g j)
 
-        pub edge-room : (len : ℕ) → Short 1 (edges_at s p d x y) → Room w 1 len → w.at + length (edge_text p t x y c l) ≤ len
-        edge-room len z r =
+        pub edge-room : Short 1 (edges_at s p d x y) → Room b i 1 → Has b (length (edge_text p t x y c l))
+        edge-room z r =
             omega (
               arith,
               ap length text-is,
@@ -249,7 +249,7 @@ module _ (s : Held) (p : ℕ) (d : Pass) (x y : ℕ) where
               r.text,
             )
 
-        pub wrote-edge : (e : ℕ) (b : List ℕ) → Put a w.at (edge_text p t x y c l) b e → Wrote a w (edges_at s p d x y) b (record { at = e; edges = w.edges + 1 })
-        wrote-edge e b z =
-            subst (λ (l : List Edge). Wrote a w l b (record { at = e; edges = w.edges + 1 })) edge-is
-            (wrote_one a b w (edge_in s p d x y c) e (subst (λ (t : List ℕ). Put a w.at t b e) text-is z))
+        pub wrote-edge : (v : Text) → Puts b (edge_text p t x y c l) v → Wrote b i (edges_at s p d x y) v (i + 1)
+        wrote-edge v z =
+            subst (λ (l : List Edge). Wrote b i l v (i + 1)) edge-is
+            (wrote_one b v i (edge_in s p d x y c) (subst (λ (t : List ℕ). Puts b t v) text-is z))

@@ -9,10 +9,10 @@ ghost use Rattle.edges.specs.Class.{class_no, no_class};
 ghost use Rattle.list_edges.specs.Listed.{area, edges_at};
 ghost use Rattle.list_put.specs.Written.{grid_at, held_in, Fits, Inside, Room, Wrote};
 
-use crate::{Part, Written};
+use crate::Part;
 use edges::bit::edge_bit;
 use edges::{chroma_class, luma_class};
-use list_text::put_edge;
+use list_text::{Edge, Text};
 use units::layout::{plane_ss_hor, plane_ss_ver};
 use units::memory::{chroma_level_at, luma_level_at};
 use units::{ChromaUnit, LumaUnit};
@@ -36,9 +36,9 @@ fn bit_at(p: Part, x: usize, y: usize) -> usize
     let luma = p.plane == 0;
     edge_bit(
         luma,
-        plane_ss_hor(luma, p.layout),
-        plane_ss_ver(luma, p.layout),
-        p.w4,
+        plane_ss_hor(luma, p.frame.layout),
+        plane_ss_ver(luma, p.frame.layout),
+        p.frame.w4,
         p.rowwise,
         across(p, x, y),
         along(p, x, y),
@@ -46,7 +46,7 @@ fn bit_at(p: Part, x: usize, y: usize) -> usize
 }
 
 fn class_at(masks: &[u16], p: Part, x: usize, y: usize) -> Option<u8>
-    requires { Inside p x y × (640 * frame_records p.w4.0 p.h4.0 ≤ length masks.now) }
+    requires { Inside p x y × (640 * frame_records p.frame.w4.0 p.frame.h4.0 ≤ length masks.now) }
     ensures class { unwrap_or result no_class ≡ class_no (edge (grid_at p) masks.now (pass_of p.rowwise) (unit (pass_of p.rowwise) x y)) }
     ensures low { IfSome result (λ c. c < no_class) }
 {
@@ -59,46 +59,42 @@ fn class_at(masks: &[u16], p: Part, x: usize, y: usize) -> Option<u8>
 
 fn level_place(p: Part, x: usize, y: usize) -> usize
     requires { Inside p x y }
-    ensures { result ≡ level_at p.w4.0 x y (area p.plane (pass_of p.rowwise)) }
+    ensures { result ≡ level_at p.frame.w4.0 x y (area p.plane (pass_of p.rowwise)) }
 {
     if p.plane == 0 {
-        return luma_level_at(p.w4.0, LumaUnit(x), LumaUnit(y), p.rowwise as usize);
+        return luma_level_at(p.frame.w4.0, LumaUnit(x), LumaUnit(y), p.rowwise as usize);
     }
-    chroma_level_at(p.w4.0, ChromaUnit(x), ChromaUnit(y), p.plane + 1)
+    chroma_level_at(p.frame.w4.0, ChromaUnit(x), ChromaUnit(y), p.plane + 1)
 }
 
 pub fn put_unit(
-    out: &mut [u8],
-    w: Written,
+    text: &mut Text,
+    edges: usize,
     p: Part,
     x: usize,
     y: usize,
     levels: &[u8],
     masks: &[u16],
-) -> Written
-    requires { Inside p x y × Fits p.w4.0 p.h4.0 (length levels.now) (length masks.now) × Room w 1 (length out.old) }
-    ensures { Wrote out.old w (edges_at (held_in p levels.now masks.now) p.plane (pass_of p.rowwise) x y) out.new result }
+) -> usize
+    requires { Inside p x y × Fits p.frame.w4.0 p.frame.h4.0 (length levels.now) (length masks.now) × Room text.old edges 1 }
+    ensures { Wrote text.old edges (edges_at (held_in p levels.now masks.now) p.plane (pass_of p.rowwise) x y) text.new result }
 {
     if across(p, x, y) == 0 {
-        return w;
+        return edges;
     }
     let Some(class) = class_at(masks, p, x, y) else {
-        return w;
+        return edges;
     };
     let place = level_place(p, x, y);
     let level = levels[place];
-    let at = put_edge(
-        out,
-        w.at,
-        p.plane as u64,
-        u64::from(p.rowwise),
-        x as u64,
-        y as u64,
-        u64::from(class),
-        u64::from(level),
-    );
-    Written {
-        at,
-        edges: w.edges + 1,
-    }
+    let edge = Edge {
+        plane: p.plane as u64,
+        pass: u64::from(p.rowwise),
+        x: x as u64,
+        y: y as u64,
+        class: u64::from(class),
+        level: u64::from(level),
+    };
+    text.put_edge(edge);
+    edges + 1
 }

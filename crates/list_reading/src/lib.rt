@@ -7,6 +7,7 @@ ghost use Rattle.list_reading.specs.Reading.{Safe, Roomy, Adds, Reached, Ended, 
 
 use list_call::{put_text, run, start, take_lines};
 use list_steps::Carried;
+use list_text::Text;
 use std::io;
 use std::io::Read;
 
@@ -28,11 +29,10 @@ struct Script {
     failed: bool,
 }
 
-// The bytes read, the bytes of the listing, and whether a read failed.
+// The bytes read, and whether a read failed.
 #[derive(Clone, Copy)]
 pub struct Answer {
     pub read: usize,
-    pub stored: usize,
     pub failed: bool,
 }
 
@@ -154,16 +154,16 @@ pub fn listed<R: Read>(
     total: usize,
     most: usize,
     buf: &mut [u8],
-    text: &mut [u8; 393255],
+    text: &mut Text,
 ) -> Answer
-    ensures { ListedAnswer total result.read buf.new result.stored text.old text.new }
+    ensures { ListedAnswer total result.read buf.new text.new.len text.old.bytes text.new.bytes }
 {
     let mut levels = [0u8; 16384];
     let mut masks = [0u16; 2560];
     let r = read_script(input, start(), total, most, buf, &mut levels, &mut masks);
+    put_text(r.carried.state, &levels, &masks, text);
     Answer {
         read: r.read,
-        stored: put_text(r.carried.state, &levels, &masks, text),
         failed: r.failed,
     }
 }

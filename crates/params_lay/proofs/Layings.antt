@@ -1,10 +1,13 @@
 -- Laying the fields: how many bits each takes, and where the next one begins.
-use mathlib.Core.List.{List, [], ◌++◌}
+use mathlib.Core.List.{List, [], ◌∷◌, ◌++◌}
 use mathlib.Core.Path.{◌≡◌, refl, sym, ap, ◌∙◌}
 use Prim.Native.Nat.{ℕ, zero, suc, ◌+◌, ◌*◌, ◌<◌, ◌≤◌}
 use native.Mathlib.Omega.{arith}
 use lib.IntN.{ℤ}
-use lib.ListN.{length, get_or, length-append}
+use native.Mathlib.Numerals.{add-one}
+use lib.ListN.{length, get_or, take, drop, length-append}
+use Rattle.std.proofs.Math.Seq.{drop-cons}
+use Rattle.std.proofs.lemmas.List.{get_or-take, length-take-le, length-drop}
 use Rattle.standard.specs.Header.{Bit}
 use Rattle.standard.specs.declared.Params.{Params}
 use Rattle.deltas.specs.Deltas.{delta}
@@ -88,6 +91,22 @@ laid-delta us ds i p k l e =
     ∙ laid_then (deltas_digits us ds i) (delta_digits (get_or us i 0) (delta ds i)) p k l e
     ∙ laid_then (digits 1 (get_or us i 0)) (digits (7 * get_or us i 0) (seven_of (delta ds i))) k (k + 1) (laid (deltas_digits us ds i) p l)
     (rw (length_digits 1 (get_or us i 0)) refl)
+
+-- the first of what is left of the first n
+pub next-item : {X : Type 0} → (n i : ℕ) (xs r : List X) (x d : X) → n ≤ length xs → drop i (take n xs) ≡ x ∷ r
+    → (i < n) × (get_or xs i d ≡ x) × (drop (i + 1) (take n xs) ≡ r)
+next-item {X} n i xs r x d h e =
+    let long = length-take-le n xs h in
+    let left = sym (length-drop i (take n xs)) ∙ ap (length {A = X}) e in
+    let within : i < n = omega (arith, long, left) in
+    let within₁ : i < length (take n xs) = omega (arith, long, within) in
+    let both = sym (drop-cons (take n xs) i d within₁) ∙ e in
+    (within, sym (get_or-take n xs i d within) ∙ ap (λ (l : List X). get_or l 0 d) both, rw (add-one i) (ap (λ (l : List X). drop 1 l) both))
+
+pub none-left : {X : Type 0} → (n i : ℕ) (xs r : List X) → n ≤ length xs → i ≤ n → r ≡ drop i (take n xs) → length r ≡ 0 → i ≡ n
+none-left {X} n i xs r h g e none =
+    let left = sym (length-drop i (take n xs)) ∙ ap (length {A = X}) (sym e) in
+    omega (arith, length-take-le n xs h, left, none, g)
 
 -- ---- all fields
 

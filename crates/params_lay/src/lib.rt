@@ -14,8 +14,8 @@ fn delta_bits(update: &[u8], n: usize) -> usize
     ensures { ((ds : List ℤ) → result ≡ length (deltas_digits update.now ds n)) × (result ≤ 8 * n) }
 {
     let mut k = 0;
-    for i in 0..n {
-        k = k + 1 + 7 * usize::from(update[i]);
+    for &u in &update[..n] {
+        k = k + 1 + 7 * usize::from(u);
     }
     k
 }
@@ -24,8 +24,10 @@ pub fn count(planes: u32, p: Params) -> usize
     requires { OneBits p }
     ensures { (result ≡ length (printed planes p)) × (result ≤ 200) }
 {
-    let u = p.delta_update as usize;
-    let fields = 16 + 2 * chroma_bits(planes, p.level[0], p.level[1]) + p.delta_enabled as usize;
+    let u = usize::from(p.delta_update);
+    let fields = 16
+        + 2 * chroma_bits(planes, p.level[0], p.level[1])
+        + usize::from(p.delta_enabled);
     fields + delta_bits(&p.update_ref, 8 * u) + delta_bits(&p.update_mode, 2 * u)
 }
 
@@ -45,7 +47,7 @@ fn lay_switches(bytes: &mut [u8], at: usize, k: usize, sharpness: u8, enabled: u
 {
     put(bytes, at, k, 3, sharpness);
     put(bytes, at, k + 3, 1, enabled);
-    put(bytes, at, k + 4, enabled as usize, update);
+    put(bytes, at, k + 4, usize::from(enabled), update);
 }
 
 fn lay_deltas(
@@ -62,10 +64,10 @@ fn lay_deltas(
         × (bytes.new ≡ laid (deltas_digits update.now deltas.now n) (at + from) bytes.old) }
 {
     let mut k = from;
-    for i in 0..n {
-        let bits = 7 * usize::from(update[i]);
-        put(bytes, at, k, 1, update[i]);
-        put(bytes, at, k + 1, bits, seven(deltas[i]));
+    for (&u, &d) in update[..n].iter().zip(&deltas[..n]) {
+        let bits = 7 * usize::from(u);
+        put(bytes, at, k, 1, u);
+        put(bytes, at, k + 1, bits, seven(d));
         k = k + 1 + bits;
     }
     k
@@ -77,10 +79,10 @@ pub fn lay(bytes: &mut [u8], at: usize, planes: u32, p: Params)
 {
     let n = chroma_bits(planes, p.level[0], p.level[1]);
     let k = 12 + 2 * n;
-    let u = p.delta_update as usize;
+    let u = usize::from(p.delta_update);
     lay_levels(bytes, at, n, p.level);
     lay_switches(bytes, at, k, p.sharpness, p.delta_enabled, p.delta_update);
-    let d = k + 4 + p.delta_enabled as usize;
+    let d = k + 4 + usize::from(p.delta_enabled);
     let m = lay_deltas(bytes, at, d, 8 * u, &p.update_ref, &p.ref_delta);
     lay_deltas(bytes, at, m, 2 * u, &p.update_mode, &p.mode_delta);
 }

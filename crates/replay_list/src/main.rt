@@ -4,6 +4,7 @@
 #![tactic(auto)]
 
 use list_reading::listed;
+use list_text::Text;
 use std::io::{self, Read, Write};
 
 const WRITTEN: usize = 4096;
@@ -52,13 +53,16 @@ fn list_in_parts<R: Read, W: Write>(
     most: usize,
 ) -> io::Result<()> {
     let mut script = [0u8; 131072];
-    let mut text = [0u8; 393255];
+    let mut text = Text {
+        bytes: [0u8; 393255],
+        len: 0,
+    };
     let r = listed(input, total, most, &mut script, &mut text);
     read_rest(input, &mut script, r.read, total)?;
     if WRITTEN <= most {
-        output.write_all(&text[..r.stored])?;
+        output.write_all(&text.bytes[..text.len])?;
     }
-    compare_whole(output, &script, total, &text[..r.stored])
+    compare_whole(output, &script, total, &text.bytes[..text.len])
 }
 
 fn replayed<R: Read, W: Write>(input: &mut R, output: &mut W) -> io::Result<bool> {

@@ -6,7 +6,7 @@ use Rattle.checks.specs.Tests.{number}
 use Rattle.checks.proofs.Accepted.{filtered-u, filtered-v}
 use Rattle.checks.proofs.Chain.{some-number, same-number}
 use Rattle.apply.specs.Apply.{limits}
-use Rattle.apply.proofs.ReadyPlanes.{deep, ready16}
+use Rattle.apply.proofs.ReadyPlanes.{deep, ready-at}
 use Rattle.apply.proofs.Answers.{refusal, work}
 use Rattle.apply.proofs.pass.Goals as goal
 
@@ -25,7 +25,7 @@ sweep-requires g c = let accepted = c.in_ok-check in
     let m = lent (g.P.Pixel.samples a.luma.now) (g.P.Pixel.samples a.u.now) (g.P.Pixel.samples a.v.now) a.levels.now a.masks.now in
     let e : number a.c m ≡ 0 = sym accepted.ensures in
     let d = deep a.c l m e in
-    (record { least = d.0; most = d.1; stored = c.requires d.1 }, ready16 a.c l m e luma)
+    (record { least = d.0; most = d.1; stored = c.requires d.1 }, ready-at a.c l m e luma)
 
 pub chroma-requires : goal.chroma-requires
 chroma-requires g c = let accepted = c.in_ok-check in
@@ -35,7 +35,7 @@ chroma-requires g c = let accepted = c.in_ok-check in
     let e : number a.c m ≡ 0 = sym accepted.ensures in
     let d = deep a.c l m e in (
       record { least = d.0; most = d.1; stored = c.requires d.1 },
-      λ o. (ready16 a.c l m e (filtered-u a.c o), ready16 a.c l m e (filtered-v a.c o)),
+      λ o. (ready-at a.c l m e (filtered-u a.c o), ready-at a.c l m e (filtered-v a.c o)),
     )
 
 pub returns : goal.returns

@@ -26,7 +26,7 @@ put_form-requires-in-None-Framed c = omega (arith, form-short 2 (omega arith))
 pub returns-in-Some-Form-default : goal.returns-in-Some-Form-default
 returns-in-Some-Form-default c =
     let e : c.args.s.fault ≡ Some Form = search rules in
-    form-texted _ _ _ _ _ _ c.put_form.auto.out (omega arith) (ap fault_number e) c.put_form.ensures
+    form-texted _ _ _ _ _ _ (c.put_form.new.self.long ∙ sym c.args.text.now.long) (omega arith) (ap fault_number e) c.put_form.ensures
 
 pub returns-in-Some-Refused-default : goal.returns-in-Some-Refused-default
 returns-in-Some-Refused-default c =
@@ -36,23 +36,23 @@ returns-in-Some-Refused-default c =
     let f : fault_number c.args.s.fault ≡ number_of r = ap fault_number e in
     let t : c.from-in-Some-Refused-default.result ≡ fault_number c.args.s.fault = c.from-in-Some-Refused-default.ensures ∙ n ∙ sym f in
     let u = numbered r in
-    refused-texted _ _ _ _ _ _ c.put_refused.auto.out (omega arith) (omega arith) (λ z. omega arith) (λ z. omega arith)
-    (subst (λ (k : ℕ). Put c.args.out.now 0 (refused_text c.args.s.line k) c.put_refused.new.out c.put_refused.result) t c.put_refused.ensures)
+    refused-texted _ _ _ _ _ _ (c.put_refused.new.self.long ∙ sym c.args.text.now.long) (omega arith) (omega arith) (λ z. omega arith) (λ z. omega arith)
+    (subst (λ (k : ℕ). Put c.args.text.now.bytes 0 (refused_text c.args.s.line k) c.put_refused.new.self.bytes c.put_refused.new.self.len) t c.put_refused.ensures)
 
 pub returns-in-None-Start : goal.returns-in-None-Start
 returns-in-None-Start c =
     let e : c.args.s.fault ≡ None = search rules in
     let p : c.args.s.phase ≡ Start = search rules in
-    early-texted _ _ _ _ _ _ c.put_form-in-None-Start.auto.out (ap fault_number e) (ap phase_number p) (omega arith) c.put_form-in-None-Start.ensures
+    early-texted _ _ _ _ _ _ (c.put_form-in-None-Start.new.self.long ∙ sym c.args.text.now.long) (ap fault_number e) (ap phase_number p) (omega arith) c.put_form-in-None-Start.ensures
 
 pub returns-in-None-Framed : goal.returns-in-None-Framed
 returns-in-None-Framed c =
     let e : c.args.s.fault ≡ None = search rules in
     let p : c.args.s.phase ≡ Framed = search rules in
-    early-texted _ _ _ _ _ _ c.put_form-in-None-Framed.auto.out (ap fault_number e) (ap phase_number p) (omega arith) c.put_form-in-None-Framed.ensures
+    early-texted _ _ _ _ _ _ (c.put_form-in-None-Framed.new.self.long ∙ sym c.args.text.now.long) (ap fault_number e) (ap phase_number p) (omega arith) c.put_form-in-None-Framed.ensures
 
 pub returns-else-s-gt256-2 : goal.returns-else-s-gt256-2
 returns-else-s-gt256-2 c =
     let e : c.args.s.fault ≡ None = search rules in
     let p : phase_number c.args.s.phase ≡ 2 = ap phase_number c.in-None-Leveled.is-1 in
-    list-texted _ _ _ _ _ _ c.put_edges.auto.out (ap fault_number e) (omega arith) c.put_edges.ensures
+    list-texted _ _ _ _ _ _ (c.put_edges.new.text.long ∙ sym c.args.text.now.long) (ap fault_number e) (omega arith) c.put_edges.ensures

@@ -1,9 +1,8 @@
 -- After y lines the edges of y lines are written.
 use mathlib.Core.List.{List}
-use mathlib.Core.Path.{◌≡◌, refl, ◌∙◌}
+use mathlib.Core.Path.{◌≡◌}
 use Prim.Native.Nat.{ℕ, ◌*◌, ◌<◌}
 use native.Mathlib.Omega.{arith}
-use lib.ListN.{length}
 use Rattle.plane.specs.Line.{pass_of}
 use Rattle.list_edges.specs.Listed.{Edge, edges_in}
 use Rattle.list_put.specs.declared.Part.{Part}
@@ -25,35 +24,31 @@ module _ (c : After-height-n) where
       short-line h (small _ _ _ _ _ c.requires.1 (λ i. omega (arith, c.shared_slice_known-1.given i))) a.p.plane (pass_of a.p.rowwise) y
       c.requires.0 (omega (arith, c.height-n.ensures))
 
-  room : Room c.args.w (c.height-n.result * 64) (length c.args.out.now)
+  room : Room c.args.text.now c.args.edges (c.height-n.result * 64)
   room = room-le (omega (arith, c.height-n.ensures, high_le (held_in c.args.p c.args.levels.now c.args.masks.now) c.args.p.plane, c.requires.1.height)) c.requires.2
 
 pub height-n-requires : goal.height-n-requires
 height-n-requires c = c.requires.1.height
 
 pub loop-y-init : goal.loop-y-init
-loop-y-init c = (omega arith, refl, wrote_none _ _)
+loop-y-init c = (omega arith, wrote_none _ _)
 
-pub put_line-v-requires : goal.put_line-v-requires
-put_line-v-requires c =
+pub put_line-listed-requires : goal.put_line-listed-requires
+put_line-listed-requires c =
     let v = c.loop-y in (
       c.requires.0,
       omega (arith, c.height-n.ensures, c.loop-y-test.true),
       c.requires.1,
-      turn-room _ _ _ 64 _ (short (goal.at.put_line-v-requires c).After-height-n) (room (goal.at.put_line-v-requires c).After-height-n) v.y c.loop-y-test.true _ _ v.invariant.1 v.invariant.2,
+      turn-room _ _ _ 64 _ (short (goal.at.put_line-listed-requires c).After-height-n) (room (goal.at.put_line-listed-requires c).After-height-n) v.y c.loop-y-test.true _ _ v.invariant.1,
     )
 
 pub loop-y-preserved : goal.loop-y-preserved
 loop-y-preserved c =
     let v = c.loop-y in (
       omega arith,
-      c.put_line-v.auto.out ∙ v.invariant.1,
-      turn-next _ _ _ 64 _ (short (goal.at.loop-y-preserved c).After-height-n) (room (goal.at.loop-y-preserved c).After-height-n) v.y c.loop-y-test.true _ _ _ _ v.invariant.2 c.put_line-v.ensures,
+      turn-next _ _ _ 64 _ (short (goal.at.loop-y-preserved c).After-height-n) (room (goal.at.loop-y-preserved c).After-height-n) v.y c.loop-y-test.true _ _ _ _ v.invariant.1 c.put_line-listed.ensures,
     )
-
-pub shape_of-out : goal.shape_of-out
-shape_of-out c = c.loop-y.invariant.1
 
 pub returns : goal.returns
 unfolding edges_in
-returns c = let e : c.loop-y.y ≡ c.height-n.result = omega arith in rw (← c.height-n.ensures, ← e) c.loop-y.invariant.2
+returns c = let e : c.loop-y.y ≡ c.height-n.result = omega arith in rw (← c.height-n.ensures, ← e) c.loop-y.invariant.1

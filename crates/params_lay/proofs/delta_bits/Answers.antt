@@ -2,21 +2,28 @@
 use mathlib.Core.Path.{◌≡◌, refl}
 use native.Mathlib.Omega.{arith}
 use native.Mathlib.Numerals.{add-one}
+use Prim.Native.Nat.{◌<◌}
+use Rattle.std.proofs.lemmas.List.{get_or-take, length-take-le}
 use Rattle.params_lay.proofs.Layings.{deltas-none, length_more}
 use Rattle.params_lay.proofs.delta_bits.Goals as goal
 
-pub loop-i-init : goal.loop-i-init
-loop-i-init c = (omega arith, λ ds. rw (deltas-none c.args.update.now ds) refl)
+pub loop-u-init : goal.loop-u-init
+loop-u-init c = (omega arith, λ ds. rw (deltas-none c.args.update.now ds) refl)
 
-pub loop-i-preserved : goal.loop-i-preserved
-loop-i-preserved c =
-    let l = c.loop-i in
+pub loop-u-preserved : goal.loop-u-preserved
+loop-u-preserved c =
+    let l = c.loop-u in
+    let i = l.u-index in
     let us = c.args.update.now in
-    let h = c.requires.2 l.i (omega arith) in
-    (omega (arith, h), λ ds. rw (add-one l.i, length_more us ds l.i) (omega (arith, l.invariant.1 ds)))
+    let long = length-take-le c.args.n us c.requires.1 in
+    let within : i < c.args.n = omega (arith, long) in
+    let h = c.requires.2 i within in
+    let e = get_or-take c.args.n us i 0 within in
+    (omega (arith, h, e), λ ds. rw (add-one i, length_more us ds i) (omega (arith, e, l.invariant.1 ds)))
 
 pub returns : goal.returns
 returns c =
-    let l = c.loop-i in
-    let e : l.i ≡ c.args.n = omega arith in
+    let l = c.loop-u in
+    let long = length-take-le c.args.n c.args.update.now c.requires.1 in
+    let e : l.u-index ≡ c.args.n = omega (arith, long) in
     (λ ds. rw (← e) (l.invariant.1 ds), omega arith)

@@ -7,6 +7,6 @@ use lib.ListN.{length}
 use Rattle.params_lay.specs.Print.{deltas_digits}
 use Rattle.params_lay.proofs.delta_bits.Given as goal
 
-abbrev pub invariant-loop-i : goal.invariant-loop-i
-invariant-loop-i l =
-    (l.k ≤ 8 * l.i) × ((ds : List ℤ) → l.k ≡ length (deltas_digits l.update ds l.i))
+abbrev pub invariant-loop-u : goal.invariant-loop-u
+invariant-loop-u l =
+    (l.k ≤ 8 * l.u-index) × ((ds : List ℤ) → l.k ≡ length (deltas_digits l.update ds l.u-index))

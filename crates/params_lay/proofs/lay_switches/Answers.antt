@@ -17,4 +17,4 @@ returns c =
     (rw (length_digits 3 a.sharpness) (sym (add_assoc a.at a.k 3))) c.put-2.ensures in
     laid-step (digits 3 a.sharpness ++ digits 1 a.enabled) (digits a.enabled a.update) (a.at + a.k) (a.at + (a.k + 4)) w
     c.put-2.new.bytes c.put-3.new.bytes two
-    (rw (long-switch 0 a.sharpness a.enabled 0) (sym (add_assoc a.at a.k 4))) c.put-3.ensures
+    (rw (long-switch 0 a.sharpness a.enabled 0) (sym (add_assoc a.at a.k 4))) (rw c.from.ensures at c.put-3.ensures)

@@ -13,4 +13,4 @@ returns c =
     let a = c.args in
     bit_is a.p a.x a.y c.requires _ _ _ _ _ (hor-is a.p c.plane_ss_hor.ensures)
     (ver-is a.p c.plane_ss_ver.ensures) c.across.ensures c.along.ensures
-    (c.edge_bit.ensures a.p.h4.0)
+    (c.edge_bit.ensures a.p.frame.h4.0)

@@ -19,15 +19,15 @@ bounds-levels-place c = let a = c.args in
     level-there a.p a.x a.y c.requires.0 _ _ c.level_place-place.ensures
     c.requires.1.levels-long
 
-pub put_edge-at-requires : goal.put_edge-at-requires
-put_edge-at-requires c =
+pub put_edge-requires : goal.put_edge-requires
+put_edge-requires c =
     let a = c.args in
     let h = held_in a.p a.levels.now a.masks.now in
     let i = c.requires.0 in
-    edge-room h _ _ a.x a.y a.out.now a.w _ c.across.ensures _
+    edge-room h _ _ a.x a.y a.text.now a.edges _ c.across.ensures _
     (c.from-2.ensures ∙ c.in-Some.ensures.class) c.if-across-eq0.false _ _ _
     (λ z. omega (arith, c.from-2.ensures, c.in-Some.ensures.low))
-    (c.from.ensures ∙ pass-no a.p.rowwise) c.level_place-place.ensures c.from-3.ensures _
+    (c.from.ensures ∙ pass-no a.p.rowwise) c.level_place-place.ensures c.from-3.ensures
     (short-unit h (small _ _ _ _ _ c.requires.1 (λ j. omega
     (arith, c.shared_slice_known-1.given j))) _ (pass_of a.p.rowwise) a.x a.y
     i.plane-in i.x-in i.y-in) c.requires.2
@@ -35,5 +35,5 @@ put_edge-at-requires c =
 pub returns : goal.returns
 returns c =
     let a = c.args in
-    wrote-edge (held_in a.p a.levels.now a.masks.now) _ _ a.x a.y _ a.w _ c.across.ensures _ (c.from-2.ensures ∙ c.in-Some.ensures.class) c.if-across-eq0.false _ _ _
-    (λ z. omega (arith, c.from-2.ensures, c.in-Some.ensures.low)) (c.from.ensures ∙ pass-no a.p.rowwise) c.level_place-place.ensures c.from-3.ensures _ _ c.put_edge-at.ensures
+    wrote-edge (held_in a.p a.levels.now a.masks.now) _ _ a.x a.y _ _ _ c.across.ensures _ (c.from-2.ensures ∙ c.in-Some.ensures.class) c.if-across-eq0.false _ _ _
+    (λ z. omega (arith, c.from-2.ensures, c.in-Some.ensures.low)) (c.from.ensures ∙ pass-no a.p.rowwise) c.level_place-place.ensures c.from-3.ensures _ c.put_edge.ensures

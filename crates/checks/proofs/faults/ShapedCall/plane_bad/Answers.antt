@@ -2,40 +2,40 @@
 use mathlib.Core.Path.{sym, ◌∙◌}
 use borrow.Author.Tests.{not-false}
 use Rattle.loops.proofs.Bools.{no, yes}
-use Rattle.checks.proofs.TestsPassed.{samples-fit, proper}
+use Rattle.checks.proofs.TestsPassed.{deep, samples-fit, proper, shaped}
 use Rattle.checks.proofs.Planes.{plane-short, plane-out, plane-fit, plane-read}
-use Rattle.checks.proofs.faults.plane_bad.Goals as goal
+use Rattle.checks.proofs.faults.ShapedCall.plane_bad.Goals as goal
 
 pub returns-then-plane_short : goal.returns-then-plane_short
 returns-then-plane_short g c =
-    plane-short c.args.c c.args.plane _ (g.met.P.Pixel.length_of c.args.s.now) (sym c.plane_short.ensures ∙ c.if-plane_short.true)
+    plane-short c.args.self.call c.args.plane _ (g.met.P.Pixel.length_of c.args.s.now) (sym c.plane_short.ensures ∙ c.if-plane_short.true)
 
 pub returns-then-not-inside : goal.returns-then-not-inside
 returns-then-not-inside g c =
-    plane-out c.args.c c.args.plane _ (g.met.P.Pixel.length_of c.args.s.now) (sym c.plane_short.ensures ∙ c.if-plane_short.false)
+    plane-out c.args.self.call c.args.plane _ (g.met.P.Pixel.length_of c.args.s.now) (sym c.plane_short.ensures ∙ c.if-plane_short.false)
     (no c.inside.ensures c.if-not-inside.true)
 
 pub returns-then-fit : goal.returns-then-fit
 returns-then-fit g c =
-    plane-fit c.args.c c.args.plane _ (g.met.P.Pixel.length_of c.args.s.now) (sym c.plane_short.ensures ∙ c.if-plane_short.false)
+    plane-fit c.args.self.call c.args.plane _ (g.met.P.Pixel.length_of c.args.s.now) (sym c.plane_short.ensures ∙ c.if-plane_short.false)
     (c.fit.ensures c.if-fit.true)
 
 pub samples_high-requires : goal.samples_high-requires
 samples_high-requires g c =
-    let a = c.args.c in
-    let plane = c.args.plane in
-    let p = c.requires in (
+    let s = c.args.self in
+    let a = s.call in
+    let plane = c.args.plane in (
       rw (c.stride_of-stride.ensures, c.plane_ss_hor.ensures, c.plane_ss_ver.ensures, c.superblock_units-sb4.ensures)
-          (samples-fit a plane _ p.0 (yes c.inside.ensures c.if-not-inside.false)
+          (samples-fit a plane _ (shaped a s.shaped) (yes c.inside.ensures c.if-not-inside.false)
           (not-false _ (sym c.plane_short.ensures ∙ c.if-plane_short.false))),
       rw c.plane_ss_hor.ensures (proper a plane).ss-hor-le,
       rw c.plane_ss_ver.ensures (proper a plane).ss-ver-le,
-      p.1,
+      deep a s.deep,
     )
 
 pub returns : goal.returns
 returns g c =
-    plane-read c.args.c c.args.plane _ (g.met.P.Pixel.length_of c.args.s.now) (sym c.plane_short.ensures ∙ c.if-plane_short.false)
+    plane-read c.args.self.call c.args.plane _ (g.met.P.Pixel.length_of c.args.s.now) (sym c.plane_short.ensures ∙ c.if-plane_short.false)
     (yes c.inside.ensures c.if-not-inside.false)
     (rw (
       c.stride_of-stride.ensures,

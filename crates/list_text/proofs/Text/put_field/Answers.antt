@@ -1,32 +1,21 @@
 -- The byte stands after the number.
 use native.Mathlib.Omega.{arith}
 use Rattle.list_text.proofs.Puts.{field-long, field_put}
-use Rattle.list_text.proofs.put_field.Goals as goal
+use Rattle.list_text.proofs.Text.put_field.Goals as goal
 
 pub put_number-e-requires : goal.put_number-e-requires
 put_number-e-requires c = omega (arith, c.requires, field-long c.args.n c.args.b)
 
-pub bounds-out-e : goal.bounds-out-e
-bounds-out-e c =
+pub bounds-self-e : goal.bounds-self-e
+bounds-self-e c =
     omega (
       arith,
       c.requires,
-      c.put_number-e.auto.out,
-      c.put_number-e.ensures.0,
-      field-long c.args.n c.args.b,
-    )
-
-pub overflow_add-result : goal.overflow_add-result
-overflow_add-result c =
-    omega (
-      arith,
-      c.requires,
-      c.put_number-e.auto.out,
       c.put_number-e.ensures.0,
       field-long c.args.n c.args.b,
     )
 
 pub returns : goal.returns
 returns c =
-    field_put _ _ _ _ _ _ c.requires c.put_number-e.ensures.0 c.put_number-e.ensures.1
+    field_put _ _ _ _ _ _ (omega (arith, c.requires)) c.put_number-e.ensures.0 c.put_number-e.ensures.1
     c.put_number-e.auto.out
