@@ -26,11 +26,11 @@ some-classes : (luma : Bool) (c : ℕ) → c < classes_of luma → c < cond luma
 some-classes true c h = omega arith
 some-classes false c h = h
 
-flag-le : (b : Bool) → bool_byte b ≤ 1
+pub flag-le : (b : Bool) → bool_byte b ≤ 1
 flag-le true = omega arith
 flag-le false = omega arith
 
-old-lt : (luma : Bool) (set : ℕ → Bool) → old_class luma set < cond luma 4 2
+pub old-lt : (luma : Bool) (set : ℕ → Bool) → old_class luma set < cond luma 4 2
 old-lt true set = omega (arith, flag-le (set 1), flag-le (set 2))
 old-lt false set = omega (arith, flag-le (set 1))
 

@@ -23,7 +23,7 @@ pub run_none : (at v : ℕ) (a : List ℕ) → a ≡ run at 0 v a
 unfolding run
 run_none at v a = refl
 
-run_step : (at i v : ℕ) (a₀ a : List ℕ) → a ≡ run at i v a₀ → set a (at + i) v ≡ run at (i + 1) v a₀
+pub run_step : (at i v : ℕ) (a₀ a : List ℕ) → a ≡ run at i v a₀ → set a (at + i) v ≡ run at (i + 1) v a₀
 unfolding run
 run_step at i v a₀ a e = up_to-again (λ i a. set a (at + i) v) i a₀ e refl
 

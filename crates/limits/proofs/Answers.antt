@@ -10,7 +10,10 @@ use lib.Dec.{eqb}
 use lib.ListN.{get_or}
 use Rattle.loops.proofs.Tables.{get_d_tabulate}
 use Rattle.standard.specs.Strength.{limit, blimit}
-use Rattle.limits.specs.Limits.{LimitAnswer, sharp_cap, table_of, no_table, limits_of, LimitsLent}
+use Rattle.std.specs.Prelude.{Result, Ok, Err}
+use Rattle.refusals.specs.declared.Refusal.{Refusal}
+use Rattle.refusals.proofs.Numbers.{result_in, refused_back}
+use Rattle.limits.specs.Limits.{LimitAnswer, answer_of, sharp_cap, table_of, no_table, limits_of, LimitsLent}
 use Rattle.limits.specs.Promises.{Promised, Promises}
 use Rattle.limits.specs.declared.Av1FilterLUT.{Av1FilterLUT}
 use Rattle.limits.proofs.Lent.{above, within, done, kept}
@@ -62,10 +65,18 @@ as_lent s r e =
     (kept s r e no_table (λ z. omega (arith, ap (λ (x : LimitAnswer). x.number) (e ∙ above s h)))))
     (λ n. done s r e no_table (ap (λ (x : LimitAnswer). x.number) (e ∙ within s (omega arith))))
 
+abbrev result_of : LimitAnswer → Result Av1FilterLUT Refusal
+result_of a = result_in a.number a.table
+
+back : (r : Result Av1FilterLUT Refusal) → result_of (answer_of r) ≡ r
+back (Ok t) = refl
+back (Err r) = refused_back r no_table
+
 pub promises : Promises
 promises =
     record {
       unique = λ s r q e f. e ∙ sym f;
+      unique-result = λ s r q e f. sym (back r) ∙ ap result_of (e ∙ sym f) ∙ back q;
       unique-lent = one_answer;
       unique-arrays = λ s r q before e i w e' i' w' f g.
           let both = one_answer s r q before _ _ f g in

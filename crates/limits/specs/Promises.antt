@@ -1,10 +1,11 @@
 -- What document 01 promises of `limits`, as theorems on its contracts alone.
 --   Promised     of one answer: its number, and the table before and after
 --   Promises     of all; by value, the table before is all zeros
-use Rattle.std.specs.Prelude.{List, ◌≡◌, ℕ, ◌+◌, ◌-◌, ◌/◌, ◌<◌, ◌≤◌, get_or}
+use Rattle.std.specs.Prelude.{List, ◌≡◌, ℕ, ◌+◌, ◌-◌, ◌/◌, ◌<◌, ◌≤◌, get_or, Result}
 use Rattle.loops.specs.Exactly.{Exactly}
 use Rattle.standard.specs.Strength.{limit, blimit}
-use Rattle.limits.specs.Limits.{LimitAnswer, no_table, limits_of, lut, LimitsLent}
+use Rattle.refusals.specs.declared.Refusal.{Refusal}
+use Rattle.limits.specs.Limits.{LimitAnswer, answer_of, no_table, limits_of, lut, LimitsLent}
 use Rattle.limits.specs.declared.Av1FilterLUT.{Av1FilterLUT}
 
 pub record Promised (s r : ℕ) (before after : Av1FilterLUT) : Type 0 where
@@ -24,6 +25,7 @@ pub record Promised (s r : ℕ) (before after : Av1FilterLUT) : Type 0 where
 pub record Promises : Type 0 where
   -- uniqueness: two answers that a contract admits are equal, by value, in a lent table and in three lent arrays
   pub unique : (s : ℕ) (r q : LimitAnswer) → r ≡ limits_of s → q ≡ limits_of s → r ≡ q
+  pub unique-result : (s : ℕ) (r q : Result Av1FilterLUT Refusal) → answer_of r ≡ limits_of s → answer_of q ≡ limits_of s → r ≡ q
   pub unique-lent : (s r q : ℕ) (before a b : Av1FilterLUT) → LimitsLent s r before a → LimitsLent s q before b → (r ≡ q) × (a ≡ b)
   pub unique-arrays : (s r q : ℕ) (before : Av1FilterLUT) (e i w e' i' w' : List ℕ) → LimitsLent s r before (lut e i w) → LimitsLent s q before (lut e' i' w')
       → (r ≡ q) × (e ≡ e') × (i ≡ i') × (w ≡ w')

@@ -83,12 +83,11 @@ list-fits s w h levels masks out g e f =
       masks-long = omega (arith, prod-le ((w + 31) / 32) ((h + 31) / 32) 2 2 (omega arith) (omega arith));
     }
 
-pub edges-put : (s : State) (w h a b c : ℕ) (levels masks before after : List ℕ) (r : ℕ) {at : ℕ} → at ≡ 0 → Listable s a b c → w ≡ units_of s.width → h ≡ units_of s.height → Bytes levels
-    → Put before at (list_text (held_of s.layout w h levels masks)) after r → (r ≤ room) × Put before 0 (list_text (held_in s levels masks)) after r
-edges-put s w h a b c levels masks before after r {at} o g e f m p = (
-  omega (arith, o, p.next, lists.room (held_of s.layout w h levels masks) (omega arith) (omega arith) m),
-  subst (λ (n : ℕ). Put before n (list_text (held_in s levels masks)) after r) o
-      (subst (λ (t : List ℕ). Put before at t after r) (ap₂ (λ (x y : ℕ). list_text (held_of s.layout x y levels masks)) e f) p),
+pub edges-put : (s : State) (w h a b c : ℕ) (levels masks before after : List ℕ) (r : ℕ) → Listable s a b c → w ≡ units_of s.width → h ≡ units_of s.height → Bytes levels
+    → Put before 0 (list_text (held_of s.layout w h levels masks)) after r → (r ≤ room) × Put before 0 (list_text (held_in s levels masks)) after r
+edges-put s w h a b c levels masks before after r g e f m p = (
+  omega (arith, p.next, lists.room (held_of s.layout w h levels masks) (omega arith) (omega arith) m),
+  subst (λ (t : List ℕ). Put before 0 t after r) (ap₂ (λ (x y : ℕ). list_text (held_of s.layout x y levels masks)) e f) p,
 )
 
 -- ---- the answer

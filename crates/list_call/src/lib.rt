@@ -35,8 +35,8 @@ pub fn start() -> Carried
 {
     let state = State {
         line: 0,
-        phase: Phase::Start,
-        fault: None,
+        phase: Phase::Start as u32,
+        number: 0,
         width: 0,
         height: 0,
         layout: 0,
@@ -87,7 +87,7 @@ pub fn run(c: Carried, script: &[u8], levels: &mut [u8; 16384], masks: &mut [u16
 }
 
 fn put_edges(s: State, levels: &[u8], masks: &[u16], text: &mut Text)
-    requires { Listable (state_is s) (length levels.now) (length masks.now) (length text.old.bytes) × (text.old.len ≡ 0) }
+    requires { Listable (state_is s) (length levels.now) (length masks.now) (length text.old.bytes) }
     ensures { (text.new.len ≤ room) × Put text.old.bytes 0 (list_text (held_in (state_is s) levels.now masks.now)) text.new.bytes text.new.len }
 {
     let w4 = luma_units(Sample(s.width as usize));
@@ -105,30 +105,27 @@ pub fn put_text(s: State, levels: &[u8; 16384], masks: &[u16; 2560], text: &mut 
     ensures { Texted (state_is s) levels.now masks.now text.old.bytes text.new.bytes text.new.len }
 {
     text.len = 0;
-    match (s.fault, s.phase) {
-        (Some(Fault::Form), _) => text.put_form(s.line),
-        (Some(Fault::Refused(r)), _) => text.put_refused(s.line, u64::from(u32::from(r))),
-        (None, Phase::Start) => text.put_form(1),
-        (None, Phase::Framed) => text.put_form(2),
-        (None, Phase::Leveled) => {
-            if 256 < s.width || 256 < s.height {
-                return;
-            }
-            put_edges(s, levels, masks, text);
-        }
+    if s.number == u32::from(Fault::Form) {
+        text.put_form(s.line);
+    } else if s.number != 0 {
+        text.put_refused(s.line, u64::from(s.number));
+    } else if s.phase < Phase::Leveled as u32 {
+        text.put_form(u64::from(s.phase) + 1);
+    } else if s.width <= 256 && s.height <= 256 {
+        put_edges(s, levels, masks, text);
     }
 }
 
 pub fn list(script: &[u8], out: &mut [u8]) -> usize
     ensures { ListAnswer script.now result out.old out.new }
 {
-    let mut levels = [0u8; 16384];
-    let mut masks = [0u16; 2560];
-    let k = run(start(), script, &mut levels, &mut masks);
     let mut text = Text {
         bytes: [0u8; 393255],
         len: 0,
     };
+    let mut levels = [0u8; 16384];
+    let mut masks = [0u16; 2560];
+    let k = run(start(), script, &mut levels, &mut masks);
     put_text(k.state, &levels, &masks, &mut text);
     let n = text.len;
     if n <= out.len() {

@@ -7,9 +7,10 @@ ghost use Rattle.std.specs.Prelude.{cond, ◌≡◌, ◌≤◌, ◌<◌, length}
 ghost use Rattle.plane.specs.Line.{columns, rows, pass_of};
 ghost use Rattle.units.specs.Layout.{has_chroma};
 ghost use Rattle.edges.specs.Edges.{units_of};
+ghost use Rattle.list_text.specs.Text.{Put};
 ghost use Rattle.list_edges.specs.Listed.{edges_in, edges_of, list_text};
 ghost use Rattle.list_put.specs.Promises.{Promises};
-ghost use Rattle.list_put.specs.Written.{held_of, held_in, grid_at, line_in, plane_in, Fits, Puts, Room, Wrote};
+ghost use Rattle.list_put.specs.Written.{held_of, held_in, grid_at, line_in, plane_in, Fits, Room, Wrote};
 
 use list_text::Text;
 use unit::put_unit;
@@ -112,9 +113,10 @@ fn put_planes(text: &mut Text, edges: usize, frame: Frame, levels: &[u8], masks:
 }
 
 pub fn put_list(text: &mut Text, frame: Frame, levels: &[u8], masks: &[u16])
-    requires { Fits frame.w4.0 frame.h4.0 (length levels.now) (length masks.now) × (text.old.len ≡ 0) }
-    ensures { Puts text.old (list_text (held_of frame.layout frame.w4.0 frame.h4.0 levels.now masks.now)) text.new }
+    requires { Fits frame.w4.0 frame.h4.0 (length levels.now) (length masks.now) }
+    ensures { Put text.old.bytes 0 (list_text (held_of frame.layout frame.w4.0 frame.h4.0 levels.now masks.now)) text.new.bytes text.new.len }
 {
+    text.len = 0;
     text.put_header();
     let edges = put_planes(text, 0, frame, levels, masks);
     text.put_total(edges as u64);

@@ -119,7 +119,7 @@ fn parts<R: Read>(
     while p.read < total {
         let read = p.read;
         p = part(input, p, most.min(total - read), buf, levels, masks);
-        if p.read == read || p.carried.state.fault.is_some() {
+        if p.read == read || p.carried.state.number != 0 {
             return p;
         }
     }

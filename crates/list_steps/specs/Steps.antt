@@ -13,7 +13,7 @@
 --   blocked              after a block line
 --   taken k l            after the line l, which k has counted
 --   step_of k s           after the line s in bytes; nothing changes once a line is refused
-use Rattle.std.specs.Prelude.{Bool, Some, Result, Ok, Err, cond, not, ◌&&◌, ◌||◌, List, [], ◌∷◌, ◌++◌, ℕ, ◌+◌, eqb, leb, ltb, pos, length, take, drop, replicate}
+use Rattle.std.specs.Prelude.{Bool, Result, Ok, Err, cond, not, ◌&&◌, ◌||◌, List, [], ◌∷◌, ◌++◌, ℕ, ◌+◌, eqb, leb, ltb, pos, length, take, drop, replicate}
 use Rattle.loops.specs.Table.{tabulate}
 use Rattle.loops.specs.Flag.{on}
 use Rattle.units.specs.Layout.{layout_ok}
@@ -57,7 +57,7 @@ refused k n = kept (refused_by k.state n) k.values k.memory
 
 abbrev pub after_line : Carried → List ℕ → List ℕ → Result Carried Fault → Kept
 after_line c levels masks (Ok d) = kept_of d levels masks
-after_line c levels masks (Err f) = refused (kept_of c levels masks) (fault_number (Some f))
+after_line c levels masks (Err f) = refused (kept_of c levels masks) (fault_number f)
 
 -- ---- a frame line
 

@@ -84,7 +84,7 @@ pub fn block_line(
 ) -> Result<Carried, Fault>
     ensures { after_line c levels.new masks.new result ≡ taken (kept_of c levels.old masks.old) (block_line b) }
 {
-    if c.state.phase != Phase::Leveled {
+    if c.state.phase != Phase::Leveled as u32 {
         return Err(Fault::Form);
     }
     recorded(c, levels, masks, b)

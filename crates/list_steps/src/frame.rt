@@ -42,13 +42,13 @@ fn frame_ok(f: FrameLine) -> Result<(), Refusal>
 pub fn frame_line(c: Carried, f: FrameLine) -> Result<Carried, Fault>
     ensures { (levels masks : List ℕ) → after_line c levels masks result ≡ taken (kept_of c levels masks) (frame_line f) }
 {
-    if c.state.phase != Phase::Start {
+    if c.state.phase != Phase::Start as u32 {
         return Err(Fault::Form);
     }
     frame_ok(f)?;
     let state = State {
-        phase: Phase::Framed,
-        fault: None,
+        phase: Phase::Framed as u32,
+        number: 0,
         width: f.width,
         height: f.height,
         layout: f.layout,

@@ -31,13 +31,13 @@ fn level_values(layout: u32, l: LevelLine) -> Result<[u8; 64], Refusal>
 pub fn level_line(c: Carried, l: LevelLine) -> Result<Carried, Fault>
     ensures { (levels masks : List ℕ) → after_line c levels masks result ≡ taken (kept_of c levels masks) (level_line l) }
 {
-    if c.state.phase != Phase::Framed {
+    if c.state.phase != Phase::Framed as u32 {
         return Err(Fault::Form);
     }
     let values = level_values(c.state.layout, l)?;
     let state = State {
-        phase: Phase::Leveled,
-        fault: None,
+        phase: Phase::Leveled as u32,
+        number: 0,
         ..c.state
     };
     Ok(Carried { state, values, ..c })

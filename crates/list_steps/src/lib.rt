@@ -5,7 +5,7 @@ mod blocks;
 mod frame;
 mod level;
 
-ghost use Rattle.std.specs.Prelude.{Some, List, ◌≡◌, ℕ, ◌<◌};
+ghost use Rattle.std.specs.Prelude.{List, ◌≡◌, ℕ, ◌<◌};
 ghost use Rattle.list_script.specs.Line.{line_said};
 ghost use Rattle.list_steps.specs.Promises.{Promises};
 ghost use Rattle.list_steps.specs.State.{fault_number, state_is};
@@ -18,6 +18,9 @@ use list_script::{ScriptLine, read_line};
 use refusals::Refusal;
 
 const LONGEST: usize = 65535;
+
+// The number of a line that is not of the script's form. No refusal has it.
+const FORM: u32 = 1000;
 
 // Before the frame line, before the level line, after it.
 #[derive(Clone, Copy, Debug, PartialEq, Eq)]
@@ -45,12 +48,26 @@ impl From<Refusal> for Fault {
     }
 }
 
-// The fault is that of the last line, which is the first refused one.
+impl From<Fault> for u32 {
+    ghost use Rattle.std.specs.Prelude.{◌≡◌};
+    ghost use Rattle.list_steps.specs.State.{fault_number};
+
+    ghost from_gives = { λ f n. n ≡ fault_number f };
+
+    fn from(f: Fault) -> u32 {
+        match f {
+            Fault::Form => FORM,
+            Fault::Refused(r) => u32::from(r),
+        }
+    }
+}
+
+// phase is a Phase, as a number. number is 0 until a line is refused, and then that of its Fault. Any other values are taken too.
 #[derive(Clone, Copy, Debug, PartialEq, Eq)]
 pub struct State {
     pub line: u64,
-    pub phase: Phase,
-    pub fault: Option<Fault>,
+    pub phase: u32,
+    pub number: u32,
     pub width: u32,
     pub height: u32,
     pub layout: u32,
@@ -88,10 +105,10 @@ fn counted(c: Carried) -> Carried
 }
 
 fn refused(c: Carried, fault: Fault) -> Carried
-    ensures { (levels masks : List ℕ) → kept_of result levels masks ≡ refused (kept_of c levels masks) (fault_number (Some fault)) }
+    ensures { (levels masks : List ℕ) → kept_of result levels masks ≡ refused (kept_of c levels masks) (fault_number fault) }
 {
     let state = State {
-        fault: Some(fault),
+        number: u32::from(fault),
         ..c.state
     };
     Carried { state, ..c }
@@ -112,7 +129,7 @@ pub fn step(c: Carried, line: &[u8], levels: &mut [u8; 16384], masks: &mut [u16;
     requires { c.state.line < 18446744073709551615 }
     ensures { kept_of result levels.new masks.new ≡ step_of (kept_of c levels.old masks.old) line.now }
 {
-    if c.state.fault.is_some() {
+    if c.state.number != 0 {
         return c;
     }
     let d = counted(c);

@@ -26,7 +26,7 @@ pub struct Text {
 }
 
 impl Text {
-    fn put_bytes(&mut self, s: &[u8])
+    pub fn put_bytes(&mut self, s: &[u8])
         requires { self.old.len + length s.now ≤ 393255 }
         ensures { Put self.old.bytes self.old.len s.now self.new.bytes self.new.len }
     {

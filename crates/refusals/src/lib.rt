@@ -3,6 +3,7 @@
 
 ghost use Rattle.std.specs.Prelude.{◌≡◌};
 ghost use Rattle.refusals.specs.Numbers.{number_of, answered};
+ghost use Rattle.refusals.specs.Promises.{Promises};
 
 // Of several that hold the call gives the one of the lowest number, but Unwritable before Bits.
 #[derive(Clone, Copy, Debug, PartialEq, Eq)]
@@ -69,3 +70,8 @@ pub fn answered(r: Result<(), Refusal>) -> u32
         Err(refusal) => u32::from(refusal),
     }
 }
+
+// The theorems of specs/Promises.antt are proved.
+pub fn promised()
+    ensures { Promises }
+{}

@@ -9,17 +9,20 @@
 --   ReadPromised              of an answer of `read`
 --   WritePromised             of an answer of `write`: its number, its count, and the bytes before and after
 --   Promises                  of all
-use Rattle.std.specs.Prelude.{true, false, cond, List, [], ◌∷◌, ◌⊎◌, ◌≡◌, ℕ, zero, suc, ◌+◌, ◌-◌, ◌*◌, ◌<◌, ◌≤◌, eqb, ℤ, length, get_or, replicate}
+use Rattle.std.specs.Prelude.{true, false, cond, List, [], ◌∷◌, ◌⊎◌, ◌≡◌, ℕ, zero, suc, ◌+◌, ◌-◌, ◌*◌, ◌<◌, ◌≤◌, eqb, ℤ, length, get_or, replicate, Result}
 use Rattle.std.proofs.Math.Option.{some, none}
 use Rattle.loops.specs.Exactly.{Exactly}
 use Rattle.standard.specs.Header.{Bit, Given, is_off, default_refs, default_modes, has_chroma, parse}
 use Rattle.standard.specs.declared.Params.{Params}
+use Rattle.refusals.specs.declared.Refusal.{Refusal}
+use Rattle.refusals.specs.Numbers.{answered}
 use Rattle.units.specs.Layout.{Layout}
 use Rattle.deltas.specs.Deltas.{delta, Outside}
 use Rattle.limits.specs.Limits.{limits_of}
 use Rattle.levels.specs.Levels.{levels_in, LevelsAnswer}
 use Rattle.bit_place.specs.Place.{bit_at, places, bits_from}
-use Rattle.params.specs.Calls.{ParamsAnswer, no_params, read_of, WriteAnswer, Lent, ReadLent, WriteLent}
+use Rattle.params_read.specs.declared.Taken.{Taken}
+use Rattle.params.specs.Calls.{ParamsAnswer, no_params, read_of, read_answer, count_of, WriteAnswer, Lent, ReadLent, WriteLent}
 use Rattle.round_trips.specs.Witness.{before, header, place, header_params, changed, changed_params}
 
 pub record SizedGiven (g : Given) : Type 0 where
@@ -110,8 +113,11 @@ pub record WritePromised (g : Given) (p : Params) (at r n : ℕ) (before after :
 pub record Promises : Type 0 where
   -- uniqueness: two answers that a contract admits are equal, by value and in lent arrays
   pub unique-read : (g : Given) (bytes : List ℕ) (at : ℕ) (a b : ParamsAnswer) → a ≡ read_of g bytes at → b ≡ read_of g bytes at → a ≡ b
+  pub unique-taken : (g : Given) (bytes : List ℕ) (at : ℕ) (a b : Result Taken Refusal) → read_answer a ≡ read_of g bytes at → read_answer b ≡ read_of g bytes at → a ≡ b
   pub unique-lent : (a : ParamsAnswer) (r q : ℕ) (before x y : Lent) → ReadLent a r before x → ReadLent a q before y → (r ≡ q) × (x ≡ y)
   pub unique-write : (g : Given) (p : Params) (at r q m n : ℕ) (before x y : List ℕ) → WriteAnswer g p at r m before x → WriteAnswer g p at q n before y → (r ≡ q) × (m ≡ n) × (x ≡ y)
+  pub unique-counted : (g : Given) (p : Params) (at : ℕ) (a b : Result ℕ Refusal) (before x y : List ℕ)
+      → WriteAnswer g p at (answered a) (count_of a) before x → WriteAnswer g p at (answered b) (count_of b) before y → (a ≡ b) × (x ≡ y)
   pub unique-written : (g : Given) (p : Params) (at r q : ℕ) (before x y counted m n : List ℕ) → WriteLent g p at r before x counted m → WriteLent g p at q before y counted n
       → (r ≡ q) × (m ≡ n) × (x ≡ y)
   -- the answer by value is what lent arrays hold

@@ -1,12 +1,13 @@
 -- The wide output of six samples a side is stored: by the contract of the filter.
 use lib.Dec.{lit≤}
 use Rattle.line.proofs.Sums.{form16}
+use Rattle.piece.proofs.Lines.{held-below}
 use Rattle.piece.proofs.FilterStores.{wide-stored, wide-range}
 use Rattle.piece.proofs.wide16.Goals as goal
 
 pub store6-requires : goal.store6-requires
 store6-requires g c =
-    let b = wide-range form16 c.args.l c.wide-f.result c.wide-f.ensures g.P.Pixel.top c.requires.2 in (
+    let b = wide-range form16 c.args.l c.wide-f.result c.wide-f.ensures g.P.Pixel.top (held-below c.requires.2) in (
       c.requires.0,
       c.requires.1,
       b 0 (lit≤ tt),

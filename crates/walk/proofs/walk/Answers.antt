@@ -1,5 +1,6 @@
 -- The set places are visited, lowest first: the invariant is the walk, run as far as the bit has moved.
 use Rattle.std.proofs.Common.{◌≡◌, ◌+◌, ◌*◌, length, refl, ap, ◌∙◌, arith}
+use Rattle.bits.proofs.Walks.{ahead-falls}
 use Rattle.walk.specs.Walk.{index_at}
 use Rattle.walk.proofs.WalkLoop.{start, masks-fit, turn, finished, is_set, len_is, asked, on-clear, on-set}
 use Rattle.walk.proofs.walk.Goals as goal
@@ -51,6 +52,12 @@ visit-requires g c =
     let q : c.args.l.q + c.loop-xy.n * 4 * c.args.l.line_step ≡ index_at c.args.l c.loop-xy.n = omega arith in
     let a = asked v f c.if-vm-xy-ne0.true _ _ _ (len_is v f _ _ c.class_of.ensures c.width_of-wd.ensures) c.filter_level.ensures q p.0 p.3 p.4 in
     (a.0, a.1, a.2, omega arith, p.0, p.1, p.2, a.4)
+
+pub loop-xy-smaller : goal.loop-xy-smaller
+loop-xy-smaller g c =
+    let v = c.loop-xy.invariant.0 in
+    let f = turn v (masks-fit v (omega arith) (omega arith) (omega arith)) (omega arith) c.loop-xy-test.true in
+    ahead-falls c.loop-xy.n c.loop-xy.xy f v.bit
 
 pub loop-xy-preserved : goal.loop-xy-preserved
 loop-xy-preserved g c =
